@@ -1,0 +1,9 @@
+pub mod formers
+pub mod Lending
+pub mod Operators
+pub mod Numbers
+pub mod Naming
+pub mod Ending
+pub mod Journal
+pub mod Report
+pub mod Formats
