@@ -1,0 +1,4 @@
+pub mod Examples
+pub mod HeldLemmas
+pub mod LeftLemmas
+pub mod TakeLemmas
