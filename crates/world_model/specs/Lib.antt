@@ -1,0 +1,12 @@
+pub mod Action
+pub mod Meaning
+pub mod Allocation
+pub mod Sight
+pub mod World
+pub mod Effect
+pub mod Step
+pub mod Run
+pub mod Traffic
+pub mod Cells
+pub mod Upgrade
+pub mod Laws
