@@ -1,0 +1,89 @@
+-- What the value of an expression is, and which actions are made on the way. What a strand does is told by
+-- continuation: each definition is given what the strand goes on to do with its value.
+use Rattle.std.specs.Prelude.{ℕ, Bool, not, if◌then◌else◌, List, [], ◌∷◌, Option, Some, None, ℤ, pos, slice_index_or}
+use Rattle.word_ops.specs.declared.place.Pos.{Pos}
+use Rattle.word_ops.specs.declared.ending.TrapKind.{TrapKind}
+use Rattle.word_ops.specs.declared.ending.TrapKind.TheVariants as kind
+use Rattle.word_ops.specs.Operators.{binary_of, unary_of, same_word, truth_of}
+use Rattle.word_ops.specs.Formats.{printed}
+use Rattle.mem_atomics.specs.declared.fetch_op.FetchOp.TheVariants as fetch
+use Rattle.cilk_ast.specs.declared.builtin.Builtin.{Builtin}
+use Rattle.cilk_ast.specs.declared.builtin.Builtin.TheVariants as built
+use Rattle.cilk_ast.specs.declared.program.Expr.{Expr, Word, Slot, Call', Fence, Where, Print', Alloc', Row_of-Expr as Args, end_of-Expr as no_args, more_of-Expr as more_args}
+use Rattle.cilk_ast.specs.Expression.{Un, Bin, Both, Either, Load, Post, Add, Swap, Cas, Init, Move}
+use Rattle.world_model.specs.Action as act
+use Rattle.world_model.specs.Meaning.{Acts, make, word_of}
+use Rattle.world_model.specs.Action.{Action, Request, Answers}
+
+-- A trap is the strand's last action.
+abbrev pub traps : Pos → TrapKind → Acts
+traps at kind answers = act.Trap at kind ∷ []
+
+-- The words in the slots of an activation.
+abbrev pub Slots : Type 0
+Slots = List ℤ
+
+-- What a call does: it stands at a place, calls a function on arguments, and goes on with what that returns.
+abbrev pub Calling : Type 0
+Calling = Pos → ℕ → List ℤ → (ℤ → Acts) → Acts
+
+-- A word other than 0 is true.
+abbrev pub is_true : ℤ → Bool
+is_true word = not (same_word word (pos 0))
+
+-- Word i of a list, and 0 where there is none.
+abbrev pub word_at : List ℤ → ℕ → ℤ
+word_at words i = slice_index_or words i (pos 0)
+
+-- Goes on with a quotient or remainder, and traps where there is none.
+abbrev pub divided : Pos → Option ℤ → (ℤ → Acts) → Acts
+divided at None next = traps at kind.Divide
+divided at (Some word) next = next word
+
+-- What an allocation asks for. Programs keep that the word is one of these four.
+abbrev pub request_of : Pos → Builtin → List ℤ → Request
+request_of at built.MwMalloc2dlong args = act.Blocked (word_at args 0) (word_at args 1)
+request_of at built.MwLocalmalloc args = act.Local at (word_at args 0) (word_at args 1)
+request_of at built.MwMallocrepl args = act.Replicated (word_at args 0)
+request_of at _ args = act.Striped (word_at args 0)
+
+module _ (call : Calling) where
+  abbrev mutual
+    -- Evaluates an expression over slots, and goes on with its value.
+    pub value : Expr → Slots → (ℤ → Acts) → Acts
+    value (Word word) slots next = next word
+    value (Slot slot) slots next = next (word_at slots slot)
+    value (Un at op inner) slots next = value inner slots (λ x. next (unary_of op x))
+    value (Bin at op left right) slots next = value left slots (λ x. value right slots (λ y. divided at (binary_of op x y) next))
+    value (Both at left right) slots next =
+        value left slots (λ x. if is_true x then value right slots (λ y. next (truth_of (is_true y))) else next (pos 0))
+    value (Either at left right) slots next =
+        value left slots (λ x. if is_true x then next (pos 1) else value right slots (λ y. next (truth_of (is_true y))))
+    value (Load at address) slots next = value address slots (λ a. make (act.Load at a) (λ answer. next (word_of answer)))
+    value (Call' at function n args) slots next = values args slots (λ words. call at function words next)
+    value (Post at op address word) slots next =
+        value address slots (λ a. value word slots (λ v. make (act.Issue at op a v) (λ _. next (pos 0))))
+    value (Add at address word) slots next =
+        value address slots (λ a. value word slots (λ v. make (act.Fetch at (fetch.Add v) a) (λ answer. next (word_of answer))))
+    value (Swap at address word) slots next =
+        value address slots (λ a. value word slots (λ v. make (act.Fetch at (fetch.Swap v) a) (λ answer. next (word_of answer))))
+    value (Cas at address expected word) slots next =
+        value address slots (λ a. value expected slots (λ x. value word slots (λ v. make (act.Fetch at (fetch.Cas x v) a) (λ answer. next (word_of answer)))))
+    value (Init at address word) slots next =
+        value address slots (λ a. value word slots (λ v. make (act.Init at a v) (λ _. next (pos 0))))
+    value Fence slots next = make act.Fence (λ _. next (pos 0))
+    value (Move at address) slots next = value address slots (λ a. make (act.Move at a) (λ _. next (pos 0)))
+    value Where slots next = make act.Where (λ answer. next (word_of answer))
+    value (Print' format n args) slots next = values args slots (λ words. make (act.Print (printed format words)) (λ _. next (pos 0)))
+    value (Alloc' at which n args) slots next =
+        values args slots (λ words. make (act.Alloc (request_of at which words)) (λ answer. next (word_of answer)))
+
+    -- Evaluates arguments from left to right, and goes on with their values.
+    pub values : {n : _} → Args n → Slots → (List ℤ → Acts) → Acts
+    values no_args slots next = next []
+    values (more_args arg rest) slots next = value arg slots (λ x. values rest slots (λ words. next (x ∷ words)))
+
+  -- The same for arguments in a list.
+  abbrev pub values_of : List Expr → Slots → (List ℤ → Acts) → Acts
+  values_of [] slots next = next []
+  values_of (arg ∷ rest) slots next = value arg slots (λ x. values_of rest slots (λ words. next (x ∷ words)))
