@@ -1,0 +1,8 @@
+mod WordRows
+pub mod Addresses
+pub mod PagesKept
+pub mod WordChanged
+pub mod Listing
+pub mod ListedPages
+pub mod RunsJoined
+pub mod Numbers

@@ -1,0 +1,95 @@
+//! The grants of a nodelet: which addresses were given out.
+
+ghost use Rattle.std.specs.Prelude.{◌≡◌, ℤ, pos, true, false, ◌||◌, ◌+ℤ◌, ◌<◌, length, IfSome, OnOk, OnErr};
+ghost use Rattle.std.specs.List.{HoldsAt};
+ghost use Rattle.nodelet_mem.specs.Grants.{is_within, is_granted_by, touches, run_up_to};
+
+use std::alloc::{AllocError, Global};
+use std::marker::Model;
+
+/// The addresses from `first` up to the one before `end`.
+#[derive(Clone, Copy, Debug)]
+struct Run {
+    first: i64,
+    end: i128,
+}
+
+impl Run {
+    fn contains(&self, address: i64) -> bool
+        ensures { result ≡ is_within self.now.first self.now.end address }
+    {
+        self.first <= address && i128::from(address) < self.end
+    }
+
+    /// Whether a run that begins at `address` makes this one longer.
+    fn touches(&self, address: i64) -> bool
+        ensures { result ≡ touches self.now address }
+    {
+        self.first <= address && i128::from(address) <= self.end
+    }
+
+    /// This run, up to `end` where it is shorter.
+    fn up_to(self, end: i128) -> Run
+        ensures { result ≡ run_up_to self end }
+    {
+        Run {
+            first: self.first,
+            end: self.end.max(end),
+        }
+    }
+}
+
+/// Runs that together have the granted addresses. A grant that touches a run makes it longer, so that
+/// allocations in a row are one run.
+#[derive(Debug, Drop)]
+pub struct Grants {
+    runs: Vec<Run>,
+}
+
+impl Model for Grants {
+    ghost use Rattle.std.specs.Prelude.{List};
+    ghost use Rattle.nodelet_mem.specs.declared.grants.Run.{Run};
+
+    ghost Value = { List Run };
+
+    ghost view = { λ g. g.runs.items };
+}
+
+impl Grants {
+    /// No grants; they grow on `alloc`.
+    pub fn new(alloc: Global) -> Grants
+        ensures { (a : ℤ) → is_granted_by result a ≡ false }
+    {
+        Grants {
+            runs: Vec::new(alloc),
+        }
+    }
+
+    /// Adds the `count` addresses from `first` on. Want of memory changes nothing.
+    pub fn add(&mut self, first: i64, count: u64) -> Result<(), AllocError>
+        ensures ok { OnOk result ((a : ℤ) → is_granted_by self.new a ≡ (is_granted_by self.old a || is_within first (first +ℤ pos count) a)) }
+        ensures err { OnErr result (self.new ≡ self.old) }
+    {
+        let end = i128::from(first) + i128::from(count);
+        match touched(&self.runs, first) {
+            Some(i) => self.runs[i] = self.runs[i].up_to(end),
+            None => self.runs.push(Run { first, end })?,
+        }
+        Ok(())
+    }
+
+    /// Whether `address` was granted.
+    pub fn contains(&self, address: i64) -> bool
+        ensures { result ≡ is_granted_by self.now address }
+    {
+        self.runs.iter().any(|run| run.contains(address))
+    }
+}
+
+/// A run that one which begins at `first` makes longer.
+fn touched(runs: &[Run], first: i64) -> Option<usize>
+    ensures bound { IfSome result (λ i. i < length runs.now) }
+    ensures touches { IfSome result (HoldsAt (λ run. touches run first ≡ true) runs.now) }
+{
+    runs.iter().position(|run| run.touches(first))
+}
