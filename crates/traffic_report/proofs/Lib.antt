@@ -1,0 +1,3 @@
+mod ReportExamples
+pub mod Below
+pub mod Lines
