@@ -1,0 +1,4 @@
+mod AskedLemmas
+mod CommandLemmas
+mod Examples
+mod RowLemmas
