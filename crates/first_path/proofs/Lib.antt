@@ -1,0 +1,10 @@
+pub mod FrontLemmas
+pub mod Fronts
+pub mod LoopLemmas
+pub mod ParseLemmas
+pub mod Parts
+pub mod PrintLemmas
+pub mod ReadLemmas
+pub mod ScriptLemmas
+pub mod Slices
+pub mod Tokens
