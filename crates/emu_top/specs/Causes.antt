@@ -1,0 +1,89 @@
+-- Why a call answers as it does.
+use Rattle.std.specs.Prelude.{◌≡◌, ℕ, ◌<◌, ◌≤◌, List, [], length, take, ◌⊎◌, false, Option, Some, None, IsSome, IfSome}
+use Rattle.cilk_ast.specs.declared.fault.TextFault.{TextFault}
+use Rattle.cilk_ast.specs.declared.fault.FaultKind.TheVariants as kind
+use Rattle.emu_io.specs.Faults.{Rose}
+use Rattle.emu_io.specs.Held.{Grew}
+use Rattle.emu_io.specs.Left.{GaveAll}
+use Rattle.first_path.specs.Scripts.{IsSpelled, NoScript}
+use Rattle.first_run.specs.Lowering.{script_meaning}
+use Rattle.word_ops.specs.declared.rules.Rules.TheVariants.{Checked}
+use Rattle.world_model.specs.World.{World}
+use Rattle.world_model.specs.Run.{run_of, end_of, Rest}
+use Rattle.cilk_ast.specs.declared.program.Program.{Program}
+use Rattle.cilk_model.specs.ProgramMeaning.{meaning_of}
+use Rattle.cilk_model.specs.Written.{Wanted, setting_of, IsWritten as Writes}
+use Rattle.first_path.specs.declared.script.Script.{Script}
+use Rattle.emu_top.specs.Words.{seed_in}
+use Rattle.emu_top.specs.Verdicts.{status_of, text_of, ran_of, fault_of}
+use Rattle.emu_top.specs.declared.ended.Ran.{Ran}
+use Rattle.emu_top.specs.declared.ended.Ended.{Ended}
+use Rattle.emu_top.specs.declared.verdict.Verdict.{Verdict}
+use Rattle.emu_top.specs.declared.verdict.Verdict.TheVariants.{BadWords, Unread, TooLong, Refused, HasRun}
+
+-- the most bytes that a text has
+abbrev pub text_limit : ℕ
+text_limit = 1048576
+
+-- the fault of a text that is not built
+abbrev pub unbuilt : TextFault
+unbuilt = record { pos = record { line = 1; column = 1 }; kind = kind.Unbuilt }
+
+-- a text spells a program: it spells a script, and the program means what the script means
+pub record SpellsProgram (text : List ℕ) (program : Program) : Type 0 where
+  pub script : Script
+  pub spelled : IsSpelled text script
+  pub meaning : meaning_of program ≡ script_meaning script
+
+-- nothing is to be written besides the output and the ending
+abbrev pub nothing_more : Wanted
+nothing_more = record { memory = false; report = false; journal = false; watch = false }
+
+-- a run of the program that the text spells, at 8 nodelets with a million turns each, under the checked rules: its
+-- steps lead to a world where nothing is possible any more, and its output, its ending and what is written are
+-- those of these steps
+pub record IsRunOf (text : List ℕ) (ran : Ran) : Type 0 where
+  pub program : Program
+  pub spells : SpellsProgram text program
+  pub world : World
+  pub leads_to : run_of (setting_of program 8 1000000 Checked) ran.told ≡ Some world
+  pub rests : Rest (setting_of program 8 1000000 Checked) world
+  pub out : ran.out ≡ world.pieces
+  pub ends_so : end_of (setting_of program 8 1000000 Checked) ran.told [] ≡ Some ran.end
+  pub written : Writes nothing_more (setting_of program 8 1000000 Checked) text ran.told [] (text_of (HasRun ran))
+
+-- a text was read whole, which is not too long, and is so
+pub record HasText (left_before left_after : Option (List ℕ)) (P : List ℕ → Type 0) : Type 0 where
+  pub text : List ℕ
+  pub whole : GaveAll left_before left_after text
+  pub short : length text ≤ text_limit
+  pub holds : P text
+
+-- the cause of a verdict: what the words ask for, what the source counted, and what it gave
+abbrev pub HasCause : List (List ℕ) → ℕ → ℕ → Option (List ℕ) → Option (List ℕ) → Verdict → Type 0
+HasCause words faults_before faults_after left_before left_after BadWords = seed_in words ≡ None
+HasCause words faults_before faults_after left_before left_after Unread = IsSome (seed_in words) × Rose faults_before faults_after
+HasCause words faults_before faults_after left_before left_after TooLong = IsSome (seed_in words) × IfSome left_before (λ text. text_limit < length text)
+HasCause words faults_before faults_after left_before left_after (Refused fault) = IsSome (seed_in words) × (fault ≡ unbuilt) × HasText left_before left_after NoScript
+HasCause words faults_before faults_after left_before left_after (HasRun ran) = IsSome (seed_in words) × HasText left_before left_after (λ text. IsRunOf text ran)
+
+-- all bytes are written, and the status is the verdict's; or the sink's faults rose, a beginning of the bytes is
+-- written, and the status is 6
+abbrev pub IsWritten : List ℕ → ℕ → ℕ → ℕ → ℕ → Option (List ℕ) → Option (List ℕ) → Type 0
+IsWritten text status whole_status faults_before faults_after held_before held_after =
+    ((status ≡ whole_status) × Grew held_before held_after text)
+    ⊎ ((status ≡ 6) × Rose faults_before faults_after × ((n : ℕ) × (n < length text) × Grew held_before held_after (take n text)))
+
+-- what a call came to is a verdict with its cause, shown and written
+pub record IsAnswer (words : List (List ℕ)) (source_before source_after : ℕ) (left_before left_after : Option (List ℕ)) (sink_before sink_after : ℕ) (held_before held_after : Option (List ℕ)) (ended : Ended) : Type 0 where
+  pub verdict : Verdict
+  pub cause : HasCause words source_before source_after left_before left_after verdict
+  pub ran : ended.ran ≡ ran_of verdict
+  pub fault : ended.fault ≡ fault_of verdict
+  pub written : IsWritten (text_of verdict) ended.status (status_of verdict) sink_before sink_after held_before held_after
+
+-- the verdict on a text alone
+abbrev pub JudgesText : List ℕ → Verdict → Type 0
+JudgesText text (Refused fault) = (fault ≡ unbuilt) × NoScript text
+JudgesText text (HasRun ran) = IsRunOf text ran
+JudgesText text _ = ⊥

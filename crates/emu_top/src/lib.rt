@@ -1,0 +1,15 @@
+//! The top call: from the words and the bytes that are read to the bytes that are written.
+#![tactic(auto)]
+
+mod ended;
+mod run;
+mod texts;
+mod top;
+mod verdict;
+mod words;
+
+pub use ended::{Ended, Ran, SourceFault};
+pub use top::{emu_main, emu_plain};
+
+#[cfg(test)]
+mod tests;

@@ -1,0 +1,152 @@
+ghost use Rattle.std.specs.Prelude.{◌≤◌};
+
+use super::*;
+use emu_io::{MemSink, MemSource};
+use std::alloc::{AllocError, Global};
+use std::test::Fail;
+use word_ops::{End, List, NoGate};
+
+const SUM: &[u8] = b"int main() { printf(\"%ld\\n\", 2 + 3 * 4); return 0; }";
+
+fn words(alloc: Global, texts: &[&str]) -> Result<Vec<String>, AllocError> {
+    let mut words = Vec::new(alloc);
+    for text in texts {
+        words.push(String::from_str(alloc, text)?)?;
+    }
+    Ok(words)
+}
+
+fn source(alloc: Global, text: &[u8], step: usize, failing: &[u64]) -> Result<MemSource, AllocError>
+    requires { 1 ≤ step }
+{
+    let bytes = List::from_vec(Vec::from_slice(alloc, text)?);
+    let failing = List::from_vec(Vec::from_slice(alloc, failing)?);
+    Ok(MemSource::new(bytes, step, failing))
+}
+
+fn sink(alloc: Global, step: usize, failing: &[u64]) -> Result<MemSink, AllocError>
+    requires { 1 ≤ step }
+{
+    let failing = List::from_vec(Vec::from_slice(alloc, failing)?);
+    Ok(MemSink::new(alloc, step, failing))
+}
+
+/// The status and the bytes of `run --serial 0` on a text.
+fn run(alloc: Global, text: &[u8]) -> Result<(u8, Vec<u8>), AllocError> {
+    let words = words(alloc, &["run", "--serial", "0"])?;
+    let mut source = source(alloc, text, 7, &[])?;
+    let mut sink = sink(alloc, 5, &[])?;
+    let ended = emu_plain(alloc, words.as_slice(), &mut source, &mut sink)?;
+    Ok((
+        ended.status,
+        Vec::from_slice(alloc, sink.bytes().as_slice())?,
+    ))
+}
+
+#[test]
+fn a_text_is_run_from_its_bytes_to_its_bytes(rt: HostRuntime) -> Result<(), Fail> {
+    let wraps = b"int main() { printf(\"%ld\\n\", 9223372036854775807 + 1); return 0; }";
+    let declares = b"int main() { long x; return 0; }";
+    let rows = [
+        (SUM, 0, b"14\nend: done 0\n".as_slice()),
+        (
+            wraps.as_slice(),
+            0,
+            b"-9223372036854775808\nend: done 0\n".as_slice(),
+        ),
+        (
+            b"int main() { return 2 - 5; }".as_slice(),
+            0,
+            b"end: done -3\n".as_slice(),
+        ),
+        (declares.as_slice(), 1, b"fault: 1:1 Unbuilt\n".as_slice()),
+        (b"".as_slice(), 1, b"fault: 1:1 Unbuilt\n".as_slice()),
+    ];
+    for (text, status, bytes) in rows {
+        let answer = run(rt.alloc(), text)?;
+        assert_eq!(rt; answer.0, status);
+        assert_eq!(rt; answer.1.as_slice(), bytes);
+    }
+    Ok(())
+}
+
+/// The status and the bytes of these words on a text that would be run.
+fn asked(alloc: Global, texts: &[&str]) -> Result<(u8, Vec<u8>), AllocError> {
+    let words = words(alloc, texts)?;
+    let mut source = source(alloc, SUM, 7, &[])?;
+    let mut sink = sink(alloc, 5, &[])?;
+    let ended = emu_plain(alloc, words.as_slice(), &mut source, &mut sink)?;
+    Ok((
+        ended.status,
+        Vec::from_slice(alloc, sink.bytes().as_slice())?,
+    ))
+}
+
+fn refused(alloc: Global, texts: &[&str]) -> Result<bool, AllocError> {
+    let answer = asked(alloc, texts)?;
+    Ok(answer.0 == 2 && answer.1.as_slice() == b"fault: words\n".as_slice())
+}
+
+#[test]
+fn other_words_ask_for_nothing(rt: HostRuntime) -> Result<(), Fail> {
+    assert!(rt; refused(rt.alloc(), &[])?);
+    assert!(rt; refused(rt.alloc(), &["run"])?);
+    assert!(rt; refused(rt.alloc(), &["run", "--serial"])?);
+    assert!(rt; refused(rt.alloc(), &["run", "--serial", "-1"])?);
+    assert!(rt; refused(rt.alloc(), &["run", "--serial", "18446744073709551616"])?);
+    assert!(rt; refused(rt.alloc(), &["run", "--serial", "0", "0"])?);
+    assert!(rt; refused(rt.alloc(), &["check", "--serial", "0"])?);
+    assert!(rt; refused(rt.alloc(), &["run", "--turns", "5"])?);
+    Ok(())
+}
+
+#[test]
+fn a_write_that_fails_leaves_a_beginning(rt: HostRuntime) -> Result<(), Fail> {
+    let words = words(rt.alloc(), &["run", "--serial", "0"])?;
+    let mut source = source(rt.alloc(), SUM, 7, &[])?;
+    let mut sink = sink(rt.alloc(), 3, &[1])?;
+    let ended = emu_plain(rt.alloc(), words.as_slice(), &mut source, &mut sink)?;
+    assert_eq!(rt; ended.status, 6);
+    assert_eq!(rt; sink.bytes().as_slice(), b"14\n".as_slice());
+    let end = ended.ran.map(|ran| ran.end);
+    assert_eq!(rt; end, Some(End::Done { value: 0 }));
+    Ok(())
+}
+
+#[test]
+fn a_read_that_fails_is_told(rt: HostRuntime) -> Result<(), Fail> {
+    let words = words(rt.alloc(), &["run", "--serial", "0"])?;
+    let mut source = source(rt.alloc(), SUM, 7, &[0])?;
+    let mut sink = sink(rt.alloc(), 100, &[])?;
+    let ended = emu_plain(rt.alloc(), words.as_slice(), &mut source, &mut sink)?;
+    assert_eq!(rt; ended.status, 5);
+    assert_eq!(rt; sink.bytes().as_slice(), b"fault: read\n".as_slice());
+    Ok(())
+}
+
+#[test]
+fn a_text_of_more_than_a_mebibyte_is_too_long(rt: HostRuntime) -> Result<(), Fail> {
+    let blanks = vec![in rt.alloc(); b' '; 1_048_577]?;
+    let answer = run(rt.alloc(), blanks.as_slice())?;
+    assert_eq!(rt; answer.0, 1);
+    assert_eq!(rt; answer.1.as_slice(), b"fault: too long\n".as_slice());
+    Ok(())
+}
+
+#[test]
+fn the_main_call_does_what_the_plain_call_does(rt: HostRuntime) -> Result<(), Fail> {
+    let words = words(rt.alloc(), &["run", "--serial", "7"])?;
+    let mut source = source(rt.alloc(), SUM, 1, &[])?;
+    let mut sink = sink(rt.alloc(), 1, &[])?;
+    let ended = emu_main(
+        &rt,
+        rt.alloc(),
+        words.as_slice(),
+        &mut source,
+        &mut sink,
+        &NoGate,
+    )?;
+    assert_eq!(rt; ended.status, 0);
+    assert_eq!(rt; sink.bytes().as_slice(), b"14\nend: done 0\n".as_slice());
+    Ok(())
+}

@@ -1,0 +1,93 @@
+ghost use Rattle.std.specs.Prelude.{◌≡◌, ◌++◌, IfOk, if◌then◌else◌};
+ghost use Rattle.std.specs.List.{concat};
+ghost use Rattle.emu_top.specs.Verdicts.{end_status as end_status_of, status_of, text_of, ran_of, fault_of};
+
+use crate::ended::{Ended, Ran, SourceFault};
+use crate::texts::fault;
+use cilk_ast::TextFault;
+use std::alloc::{AllocError, Global};
+use traffic_report::ending_text;
+use word_ops::{End, List};
+
+/// What a call comes to before anything is written.
+#[derive(Debug, Drop)]
+pub enum Verdict {
+    /// The words ask for nothing.
+    BadWords,
+    /// The source failed.
+    Unread,
+    /// The source gave more than a text can have.
+    TooLong,
+    /// The text is refused.
+    Refused(TextFault),
+    /// The text was run.
+    HasRun(Ran),
+}
+
+/// All pieces, one after the other.
+fn joined(alloc: Global, pieces: &[List<u8>]) -> Result<List<u8>, AllocError>
+    ensures { IfOk result (λ text. text ≡ concat pieces.now) }
+{
+    let mut text = List::new(alloc);
+    for piece in pieces {
+        text.extend_from_slice(piece.as_slice())?;
+    }
+    Ok(text)
+}
+
+fn lined(alloc: Global, line: &[u8]) -> Result<List<u8>, AllocError>
+    ensures { IfOk result (λ text. text ≡ line.now) }
+{
+    let mut text = List::new(alloc);
+    text.extend_from_slice(line)?;
+    Ok(text)
+}
+
+fn run_text(alloc: Global, ran: &Ran) -> Result<List<u8>, AllocError>
+    ensures { IfOk result (λ text. text ≡ text_of (Verdict.HasRun ran.now)) }
+{
+    let mut text = joined(alloc, ran.out.as_slice())?;
+    let last = ending_text(alloc, ran.end)?;
+    text.extend_from_slice(last.as_slice())?;
+    Ok(text)
+}
+
+/// The bytes that are to be written.
+pub(crate) fn text(alloc: Global, verdict: &Verdict) -> Result<List<u8>, AllocError>
+    ensures { IfOk result (λ text. text ≡ text_of verdict.now) }
+{
+    match verdict {
+        Verdict::BadWords => lined(alloc, b"fault: words\n"),
+        Verdict::Unread => lined(alloc, b"fault: read\n"),
+        Verdict::TooLong => lined(alloc, b"fault: too long\n"),
+        Verdict::Refused(text_fault) => fault(alloc, *text_fault),
+        Verdict::HasRun(ran) => run_text(alloc, ran),
+    }
+}
+
+fn end_status(end: End) -> u8
+    ensures { result ≡ end_status_of end }
+{
+    match end {
+        End::Done { .. } => 0,
+        End::Trap { .. } => 3,
+        End::Spent { .. } => 4,
+    }
+}
+
+/// What a call came to, where its bytes were written whole or not.
+pub(crate) fn ended(verdict: Verdict, whole: bool) -> Ended
+    ensures status { result.status ≡ (if whole then status_of verdict else 6) }
+    ensures ran { result.ran ≡ ran_of verdict }
+    ensures fault { result.fault ≡ fault_of verdict }
+{
+    let (status, ran, fault) = match verdict {
+        Verdict::BadWords => (2, None, None),
+        Verdict::Unread => (5, None, None),
+        Verdict::TooLong => (1, None, Some(SourceFault::TooLong)),
+        Verdict::Refused(text_fault) => (1, None, Some(SourceFault::Text(text_fault))),
+        Verdict::HasRun(ran) => (end_status(ran.end), Some(ran), None),
+    };
+    let status = if whole { status } else { 6 };
+    Ended { status, ran, fault }
+}

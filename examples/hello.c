@@ -1,0 +1,1 @@
+int main() { printf("%ld\n", 2 + 3 * 4); return 0; }
