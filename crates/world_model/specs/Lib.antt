@@ -1,5 +1,6 @@
 pub mod Action
 pub mod Meaning
+pub mod Activation
 pub mod Allocation
 pub mod Sight
 pub mod World
