@@ -5,7 +5,8 @@ use Rattle.cilk_ast.specs.declared.program.Expr.TheBlock.{hidden-the_row-Expr-1}
 use Rattle.cilk_ast.specs.Expression.{listed}
 use Rattle.cilk_ast.proofs.ExpressionForms.{listed_row}
 use Rattle.world_model.specs.Meaning.{Acts}
-use Rattle.cilk_model.specs.Value.{Slots, Calling, value, values, values_of}
+use Rattle.world_model.specs.Activation.{Slots}
+use Rattle.cilk_model.specs.Value.{Calling, value, values, values_of}
 
 module _ (call : Calling) where
   pub values_are : {n : _} (args : Args n) (slots : Slots) (next : List ℤ → Acts) → values call args slots next ≡ values_of call (listed args) slots next

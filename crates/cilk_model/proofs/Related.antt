@@ -8,7 +8,8 @@ use Rattle.cilk_ast.specs.declared.program.Expr.{Expr, Word, Slot, Call', Fence,
 use Rattle.cilk_ast.specs.Expression.{Un, Bin, Both, Either, Load, Post, Add, Swap, Cas, Init, Move}
 use Rattle.world_model.specs.Action.{Action, Trap, Hint}
 use Rattle.world_model.specs.Meaning.{Acts, make, word_of}
-use Rattle.cilk_model.specs.Value.{Slots, Calling, is_true, word_at, divided, value, values, values_of}
+use Rattle.world_model.specs.Activation.{Slots, word_at}
+use Rattle.cilk_model.specs.Value.{Calling, is_true, divided, value, values, values_of}
 use Rattle.cilk_model.specs.Statement.{hinted}
 use Rattle.cilk_model.specs.Laws.{is_final}
 

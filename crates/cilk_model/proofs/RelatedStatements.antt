@@ -9,9 +9,10 @@ use Rattle.cilk_ast.specs.declared.program.Function.{Function}
 use Rattle.world_model.specs.Action as act
 use Rattle.world_model.specs.Action.{Action}
 use Rattle.world_model.specs.Meaning.{Acts, make}
-use Rattle.cilk_model.specs.Value.{Slots, Calling, is_true, word_at, value}
-use Rattle.cilk_model.specs.Statement.{Targets, Flow, joined, syncs, returns, repeats, spawns_each, runs, runs_all}
-use Rattle.cilk_model.specs.Acts.{Running, max_depth, first_slots, calls, body_of, run}
+use Rattle.world_model.specs.Activation.{Slots, Targets, max_depth, word_at, first_slots, joined}
+use Rattle.cilk_model.specs.Value.{Calling, is_true, value}
+use Rattle.cilk_model.specs.Statement.{Flow, syncs, returns, repeats, spawns_each, runs, runs_all}
+use Rattle.cilk_model.specs.Acts.{Running, calls, body_of, run}
 use Rattle.cilk_model.proofs.Related.{IsKept, Then, Calls, asked, chosen, value_related, values_of_related, hinted_related}
 
 module _ (R : ℕ → Acts → Acts → Type 0) (kept : IsKept R) where

@@ -1,20 +1,13 @@
 -- What a strand does: the actions of a function on arguments, by its answers.
-use Rattle.std.specs.Prelude.{ℕ, zero, suc, ◌-◌, ◌==◌, if◌then◌else◌, List, [], ◌∷◌, ◌++◌, length, replicate, Option, Some, None, ℤ, pos, slice_get}
+use Rattle.std.specs.Prelude.{ℕ, zero, suc, ◌==◌, if◌then◌else◌, List, [], ◌∷◌, length, Option, Some, None, ℤ, pos, slice_get}
 use Rattle.word_ops.specs.declared.ending.TrapKind.TheVariants as kind
 use Rattle.cilk_ast.specs.declared.program.Function.{Function}
 use Rattle.world_model.specs.Action as act
 use Rattle.world_model.specs.Action.{Action, Answers}
 use Rattle.world_model.specs.Meaning.{Acts, make}
-use Rattle.cilk_model.specs.Value.{traps, Slots, Calling}
+use Rattle.world_model.specs.Activation.{max_depth, first_slots}
+use Rattle.cilk_model.specs.Value.{traps, Calling}
 use Rattle.cilk_model.specs.Statement.{Flow, returns, runs}
-
--- The deepest activation of a strand.
-abbrev pub max_depth : ℕ
-max_depth = 256
-
--- The slots of a function at its start: its arguments, and 0 in the others.
-abbrev pub first_slots : ℕ → List ℤ → Slots
-first_slots n args = args ++ replicate (n - length args) (pos 0)
 
 -- Runs a function at a depth on arguments, and goes on with what it returns.
 abbrev pub Running : Type 0

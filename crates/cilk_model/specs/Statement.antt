@@ -9,22 +9,12 @@ use Rattle.cilk_ast.specs.Statement.{If, Loop}
 use Rattle.world_model.specs.Action as act
 use Rattle.world_model.specs.Action.{Hint}
 use Rattle.world_model.specs.Meaning.{Acts, make, word_of}
-use Rattle.cilk_model.specs.Value.{Slots, Calling, is_true, word_at, value, values_of}
-
--- Where the results of the children go that are not joined, in spawn order: to a slot each, or nowhere.
-abbrev pub Targets : Type 0
-Targets = List (Option ℕ)
+use Rattle.world_model.specs.Activation.{Slots, Targets, word_at, joined}
+use Rattle.cilk_model.specs.Value.{Calling, is_true, value, values_of}
 
 -- What is done from a point of a body on, by the slots and targets there.
 abbrev pub Flow : Type 0
 Flow = Slots → Targets → Acts
-
--- The slots after results have gone to their targets, one after the other.
-abbrev pub joined : Slots → Targets → List ℤ → Slots
-joined slots [] results = slots
-joined slots (target ∷ targets) [] = slots
-joined slots (None ∷ targets) (result ∷ results) = joined slots targets results
-joined slots (Some slot ∷ targets) (result ∷ results) = joined (slice_set slots slot result) targets results
 
 -- Joins the children of the activation at a depth.
 abbrev pub syncs : ℕ → Flow → Flow
@@ -34,6 +24,10 @@ syncs depth next slots targets = make (act.Sync depth) (λ results. next (joined
 abbrev pub hinted : Calling → Pos → Option Expr → Slots → (Option Hint → Acts) → Acts
 hinted call at None slots next = next None
 hinted call at (Some hint) slots next = value call hint slots (λ a. next (Some (record { pos = at; address = a })))
+
+-- Stores a word at an address, and goes on.
+abbrev pub stores : Pos → ℤ → ℤ → Acts → Acts
+stores at address word next = make (act.Issue at op.Store address word) (λ _. next)
 
 -- What an activation at a depth does to return a word: where its function spawns it syncs first. Then `done`
 -- goes on with the word.
@@ -63,16 +57,17 @@ module _ (depth function : ℕ) (copies : List ℤ) (high : ℤ) (next : Targets
 -- what is done with what it returns.
 module _ (call : Calling) (depth : ℕ) (spawns : Bool) (fuel : ℕ) (done : ℤ → Acts) where
   abbrev mutual
+    -- Runs a statement: a case for each form, given what follows it, a break and a continue.
     pub runs : Stmt → Flow → Flow → Flow → Flow
     runs Nothing next broken continued = next
     runs (Block' n body) next broken continued = runs_all body next broken continued
     runs (Eval e) next broken continued = λ slots targets. value call e slots (λ _. next slots targets)
     runs (Set slot e) next broken continued = λ slots targets. value call e slots (λ x. next (slice_set slots slot x) targets)
     runs (Store at address e) next broken continued = λ slots targets.
-        value call address slots (λ a. value call e slots (λ v. make (act.Issue at op.Store a v) (λ _. next slots targets)))
+        value call address slots (λ a. value call e slots (λ v. stores at a v (next slots targets)))
     runs (AddTo at address e) next broken continued = λ slots targets.
         value call address slots (λ a. make (act.Load at a) (λ old. value call e slots (λ v.
-        make (act.Issue at op.Store a (int_wrapping_add w64 (word_of old) v)) (λ _. next slots targets))))
+        stores at a (int_wrapping_add w64 (word_of old) v) (next slots targets))))
     runs (Spawn at target function hint args) next broken continued = λ slots targets.
         hinted call at hint slots (λ place. values_of call args slots (λ words.
         make (act.Spawn depth function words place) (λ _. next slots (targets ++ target ∷ []))))

@@ -10,7 +10,8 @@ use Rattle.first_path.specs.Values.{Sum, joined, closed_sum, with_link, value_fr
 use Rattle.cilk_ast.specs.declared.program.Expr.{Expr, Word}
 use Rattle.cilk_ast.proofs.ExpressionForms.{bin_form}
 use Rattle.world_model.specs.Meaning.{Acts}
-use Rattle.cilk_model.specs.Value.{Slots, Calling, divided, value, values_of}
+use Rattle.world_model.specs.Activation.{Slots}
+use Rattle.cilk_model.specs.Value.{Calling, divided, value, values_of}
 use Rattle.first_run.specs.Lowering.{one_place, operator_of, between, SumBefore, with_product, with_operand, expression_from, expression_of}
 
 module _ (call : Calling) (slots : Slots) where

@@ -9,8 +9,9 @@ use Rattle.cilk_ast.specs.declared.program.Stmt.TheBlock.{shape-the_row-Stmt-0, 
 use Rattle.world_model.specs.Action as act
 use Rattle.world_model.specs.Action.{Action, Answers}
 use Rattle.world_model.specs.Meaning.{Acts, make}
-use Rattle.cilk_model.specs.Value.{Slots, Calling}
-use Rattle.cilk_model.specs.Statement.{Flow, Targets, returns, runs_all}
+use Rattle.world_model.specs.Activation.{Slots, Targets}
+use Rattle.cilk_model.specs.Value.{Calling}
+use Rattle.cilk_model.specs.Statement.{Flow, returns, runs_all}
 use Rattle.cilk_model.specs.Acts.{acts, calls, run}
 use Rattle.cilk_model.proofs.Arguments.{values_of_list}
 use Rattle.first_run.specs.Lowering.{expression_of, statement_of, function_of}

@@ -1,0 +1,9 @@
+-- The canonical text of a tree.
+use Rattle.std.specs.Prelude.{ℕ, List}
+use Rattle.cilk_ast.specs.declared.tree.Tree.{Tree}
+use Rattle.cilk_model.specs.TreeTokens.{tokens_of}
+use Rattle.cilk_model.specs.Layout.{put_all, blank_page}
+
+-- Its tokens, laid out in order.
+abbrev pub canonical_text : Tree → List ℕ
+canonical_text tree = (put_all blank_page (tokens_of tree)).text

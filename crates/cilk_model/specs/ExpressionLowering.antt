@@ -1,0 +1,79 @@
+-- What expressions are in a program.
+use Rattle.std.specs.Prelude.{ℕ, ◌==◌, List, [], ◌∷◌, Option, Some, None, unwrap_or, ℤ, pos}
+use Rattle.std.specs.List.{position_or_len}
+use Rattle.word_ops.specs.declared.place.Pos.{Pos}
+use Rattle.word_ops.specs.declared.operators.BinaryOp.TheVariants as by
+use Rattle.mem_atomics.specs.declared.op.Op.TheVariants as op
+use Rattle.cilk_ast.specs.declared.builtin.Builtin.{Builtin}
+use Rattle.cilk_ast.specs.declared.builtin.Builtin.TheVariants as built
+use Rattle.cilk_ast.specs.declared.program.Expr as code
+use Rattle.cilk_ast.specs.declared.program.Expr.{Expr, Word, Slot, Fence, Where}
+use Rattle.cilk_ast.specs.declared.tree.TExpr.{TExpr, Number, Var, Call', Builtin', Print', Row_of-TExpr as Args, end_of-TExpr as no_args, more_of-TExpr as more_args}
+use Rattle.cilk_ast.specs.TreeExpression.{Paren, Un, Deref, Cast, Index, Bin, Both, Either, InitAt}
+use Rattle.cilk_model.specs.Formats.{format_of}
+use Rattle.cilk_model.specs.Scopes.{Entity, local, global, function, Names}
+use Rattle.cilk_model.specs.Copies.{Frame}
+
+-- The slot of a local, by its number.
+abbrev pub slot_in : Frame → ℕ → ℕ
+slot_in frame number = position_or_len (λ other. other == number) frame
+
+-- The address of a global.
+abbrev pub address_of : Option Entity → ℤ
+address_of (Some (global g)) = g.address
+address_of _ = pos 0
+
+-- Which function a name calls.
+abbrev pub index_of : Option Entity → ℕ
+index_of (Some (function f)) = f.index
+index_of _ = 0
+
+-- What a built-in is on its arguments. Those that are not here allocate.
+abbrev pub built_in : Pos → Builtin → List Expr → Expr
+built_in at built.RemoteAdd (p ∷ v ∷ []) = code.Post at op.Add p v
+built_in at built.RemoteAnd (p ∷ v ∷ []) = code.Post at op.And p v
+built_in at built.RemoteOr (p ∷ v ∷ []) = code.Post at op.Or p v
+built_in at built.RemoteXor (p ∷ v ∷ []) = code.Post at op.Xor p v
+built_in at built.RemoteMin (p ∷ v ∷ []) = code.Post at op.Min p v
+built_in at built.RemoteMax (p ∷ v ∷ []) = code.Post at op.Max p v
+built_in at built.AtomicAddms (p ∷ v ∷ []) = code.Add at p v
+built_in at built.AtomicSwap (p ∷ v ∷ []) = code.Swap at p v
+built_in at built.AtomicCas (p ∷ expected ∷ v ∷ []) = code.Cas at p expected v
+built_in at built.MwReplicatedInit (p ∷ v ∷ []) = code.Init at p v
+built_in at built.Fence [] = Fence
+built_in at built.Migrate (p ∷ []) = code.Move at p
+built_in at built.NodeId [] = Where
+built_in at which args = code.Alloc at which args
+
+module _ (names : Names) (frame : Frame) where
+  -- The word of a variable.
+  abbrev pub variable : Pos → Option Entity → Expr
+  variable at (Some (local l)) = Slot (slot_in frame l.number)
+  variable at other = code.Load at (Word (address_of other))
+
+  -- An expression in a function with this frame.
+  abbrev mutual
+    pub expression : TExpr → Expr
+    expression (Number at value) = Word value
+    expression (Var at name) = variable at (names name)
+    expression (Paren at inner) = expression inner
+    expression (Un at op inner) = code.Un at op (expression inner)
+    expression (Deref at inner) = code.Load at (expression inner)
+    expression (Cast at kind inner) = expression inner
+    expression (Index at base index) = code.Load at (code.Bin at by.Add (expression base) (expression index))
+    expression (Bin at op left right) = code.Bin at op (expression left) (expression right)
+    expression (Both at left right) = code.Both at (expression left) (expression right)
+    expression (Either at left right) = code.Either at (expression left) (expression right)
+    expression (Call' at name n args) = code.Call at (index_of (names name)) (arguments args)
+    expression (Builtin' at which n args) = built_in at which (arguments args)
+    expression (Print' at text_at format n args) = code.Print (unwrap_or (format_of format) []) (arguments args)
+    expression (InitAt at name_at name value) = code.Init at (Word (address_of (names name))) (expression value)
+
+    pub arguments : {n : _} → Args n → List Expr
+    arguments no_args = []
+    arguments (more_args arg rest) = expression arg ∷ arguments rest
+
+  -- A hint, if there is one.
+  abbrev pub hint : Option TExpr → Option Expr
+  hint None = None
+  hint (Some e) = Some (expression e)

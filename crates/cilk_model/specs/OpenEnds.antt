@@ -1,0 +1,13 @@
+-- Statements that an `else` behind them would go on.
+use Rattle.std.specs.Prelude.{Bool, true, false}
+use Rattle.cilk_ast.specs.declared.tree.TStmt.{TStmt, None'}
+use Rattle.cilk_ast.specs.TreeStatement.{If, While, For, CilkFor, Present}
+
+-- The statement ends in an `if` without an `else`.
+abbrev pub ends_open : TStmt → Bool
+ends_open (If test yes_ None') = true
+ends_open (If test yes_ (Present no_)) = ends_open no_
+ends_open (While test body) = ends_open body
+ends_open (For init test step body) = ends_open body
+ends_open (CilkFor at name low second high third body) = ends_open body
+ends_open _ = false
