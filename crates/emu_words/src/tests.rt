@@ -53,93 +53,83 @@ fn each_mode_has_its_word(rt: HostRuntime) -> Result<(), Fail> {
 }
 
 #[test]
-fn options_and_flags_are_read(rt: HostRuntime) -> Result<(), Fail> {
-    let lines = [
-        ("run --nodelets 64", Asked { n: 64, ..RUN }),
+fn nodelets_and_turns_are_read(rt: HostRuntime) -> Result<(), Fail> {
+    let n = 64;
+    let turns = 1_099_511_627_776;
+    let rows = [
+        ("run --nodelets 64", Asked { n, ..RUN }),
         ("--nodelets=1 run", Asked { n: 1, ..RUN }),
         ("run --nodelets 08", RUN),
-        (
-            "run --nodelets 00000000000000000064",
-            Asked { n: 64, ..RUN },
-        ),
+        ("run --nodelets 00000000000000000064", Asked { n, ..RUN }),
         ("run --turns 1", Asked { turns: 1, ..RUN }),
-        (
-            "run --turns 1099511627776",
-            Asked {
-                turns: 1_099_511_627_776,
-                ..RUN
-            },
-        ),
-        (
-            "run --serial 0",
-            Asked {
-                serial: Some(0),
-                ..RUN
-            },
-        ),
+        ("run --turns 1099511627776", Asked { turns, ..RUN }),
+    ];
+    for (line, wanted) in rows {
+        assert!(rt; answer(rt, line)? == Ok(wanted), "{line}");
+    }
+    Ok(())
+}
+
+#[test]
+fn seeds_and_workloads_are_read(rt: HostRuntime) -> Result<(), Fail> {
+    let serial = Some(0);
+    let last = Some(u64::MAX);
+    let workload = Some(1_000_000);
+    let rows = [
+        ("run --serial 0", Asked { serial, ..RUN }),
         (
             "run --serial 18446744073709551615",
             Asked {
-                serial: Some(u64::MAX),
+                serial: last,
                 ..RUN
             },
         ),
-        (
-            "run --workload 1000000",
-            Asked {
-                workload: Some(1_000_000),
-                ..RUN
-            },
-        ),
-        (
-            "run --report",
-            Asked {
-                report: true,
-                ..RUN
-            },
-        ),
-        (
-            "--memory run",
-            Asked {
-                memory: true,
-                ..RUN
-            },
-        ),
-        (
-            "run --record",
-            Asked {
-                journal: true,
-                ..RUN
-            },
-        ),
-        ("run --watch", Asked { watch: true, ..RUN }),
-        ("-- run", RUN),
-        (
-            "--report -- run",
-            Asked {
-                report: true,
-                ..RUN
-            },
-        ),
-        (
-            "check --workload 7",
-            Asked {
-                mode: Mode::Check,
-                workload: Some(7),
-                ..RUN
-            },
-        ),
-        (
-            "gen --workload 19 --nodelets 2",
-            Asked {
-                mode: Mode::Gen,
-                n: 2,
-                workload: Some(19),
-                ..RUN
-            },
-        ),
+        ("run --workload 1000000", Asked { workload, ..RUN }),
     ];
-    for (line, wanted) in lines {
+    for (line, wanted) in rows {
+        assert!(rt; answer(rt, line)? == Ok(wanted), "{line}");
+    }
+    Ok(())
+}
+
+#[test]
+fn flags_are_read(rt: HostRuntime) -> Result<(), Fail> {
+    let report = true;
+    let memory = true;
+    let journal = true;
+    let watch = true;
+    let rows = [
+        ("run --report", Asked { report, ..RUN }),
+        ("--memory run", Asked { memory, ..RUN }),
+        ("run --record", Asked { journal, ..RUN }),
+        ("run --watch", Asked { watch, ..RUN }),
+        ("-- run", RUN),
+        ("--report -- run", Asked { report, ..RUN }),
+    ];
+    for (line, wanted) in rows {
+        assert!(rt; answer(rt, line)? == Ok(wanted), "{line}");
+    }
+    Ok(())
+}
+
+#[test]
+fn options_of_other_modes_are_kept(rt: HostRuntime) -> Result<(), Fail> {
+    let check = Asked {
+        mode: Mode::Check,
+        workload: Some(7),
+        ..RUN
+    };
+    let text = Asked {
+        mode: Mode::Gen,
+        n: 2,
+        workload: Some(19),
+        ..RUN
+    };
+    let rows = [
+        ("check --workload 7", check),
+        ("gen --workload 19 --nodelets 2", text),
+    ];
+    for (line, wanted) in rows {
         assert!(rt; answer(rt, line)? == Ok(wanted), "{line}");
     }
     Ok(())

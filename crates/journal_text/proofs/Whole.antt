@@ -12,7 +12,7 @@ use Rattle.word_ops.specs.Journal.{count_line, step_line}
 use Rattle.word_ops.specs.declared.step.Step.{Step}
 use Rattle.journal_text.specs.Reading.{behind, count_in_line, step_in}
 use Rattle.journal_text.specs.Decoding.{needs, then_on, newlines, steps_in, text_in, head_in, nothing, end_in, journal_in}
-use Rattle.journal_text.specs.Journals.{IsJournal, IsNoJournal, IsAmong, IsNamed, IfFault, text_of}
+use Rattle.journal_text.specs.Journals.{IsJournal, IsTextOf, IsNoJournal, IsAmong, IsNamed, IfFault, text_of}
 use Rattle.journal_text.specs.declared.fault.JournalFault.{JournalFault}
 use Rattle.journal_text.specs.declared.fault.JournalKind.{JournalKind}
 use Rattle.journal_text.specs.declared.fault.JournalKind.TheVariants as kind
@@ -191,9 +191,17 @@ no_journal bytes fault e j is named fits same =
     let both : Ok j ≡ Err fault = sym (journal_finds j is named fits) ∙ ap journal_in (sym same) ∙ e in
     absurd (grind (arith, both))
 
+-- the bytes are a journal's in one way
+journal_is_one : (bytes : List ℕ) (j k : Journal) → journal_in bytes ≡ Ok j → IsJournal k → All IsNamed k.steps → length k.steps < 2 ^ 64 → bytes ≡ text_of k → k ≡ j
+journal_is_one bytes j k e is named fits same =
+    let both : Ok k ≡ Ok j = sym (journal_finds k is named fits) ∙ ap journal_in (sym same) ∙ e in
+    grind (arith, both)
+
 -- what is answered where the bytes are a journal
-pub journal_answered : (bytes : List ℕ) (r : Result Journal JournalRefusal) → IfOk r (λ j. journal_in bytes ≡ Ok j) → IfOk r (λ j. (bytes ≡ text_of j) × IsJournal j)
-journal_answered bytes (Ok j) e = journal_sound bytes j e
+pub journal_answered : (bytes : List ℕ) (r : Result Journal JournalRefusal) → IfOk r (λ j. journal_in bytes ≡ Ok j) → IfOk r (λ j. IsTextOf j bytes)
+journal_answered bytes (Ok j) e =
+    let sound = journal_sound bytes j e in
+    record { is_text = sound.0; within = sound.1; alone = λ k is named fits same. journal_is_one bytes j k e is named fits same }
 journal_answered bytes (Err refusal) e = tt
 
 -- what is answered where they are none

@@ -1,5 +1,5 @@
 -- The journals that have a text.
-use Rattle.std.specs.Prelude.{⊤, ℕ, ◌≤◌, ◌<◌, ◌^◌, ◌≢◌, List, Some, None, length}
+use Rattle.std.specs.Prelude.{⊤, ℕ, ◌≤◌, ◌<◌, ◌^◌, ◌≡◌, ◌≢◌, List, Some, None, length}
 use Rattle.std.specs.Int.{IsInRange}
 use Rattle.std.specs.List.{All}
 use Rattle.word_ops.specs.Journal.{journal_of}
@@ -39,6 +39,12 @@ abbrev pub IsNamed : Step → Type 0
 IsNamed (Act name None) = IsName name
 IsNamed (Act name (Some child)) = IsName name × IsName child
 IsNamed (Apply name nodelet) = IsName name
+
+-- the bytes are those of this journal, which is within its limits, and of no other
+pub record IsTextOf (j : Journal) (bytes : List ℕ) : Type 0 where
+  pub is_text : bytes ≡ text_of j
+  pub within : IsJournal j
+  pub alone : (k : Journal) → IsJournal k → All IsNamed k.steps → length k.steps < 2 ^ 64 → bytes ≡ text_of k → k ≡ j
 
 -- the bytes are those of no journal
 abbrev pub IsNoJournal : List ℕ → Type 0

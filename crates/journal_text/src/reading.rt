@@ -1,7 +1,7 @@
 ghost use Rattle.std.specs.Prelude.{◌≡◌, ◌≤◌, ◌<◌, ◌+◌, [], length, Ok, Err, IfOk, IfErr, MatchOption, MatchResult, ◌^◌};
 ghost use Rattle.std.specs.Int.{IsInRange};
 ghost use Rattle.journal_text.specs.Decoding.{broken, head_in, newlines, text_in, steps_in, end_in, journal_in};
-ghost use Rattle.journal_text.specs.Journals.{IfFault, IsJournal, IsNoJournal, text_of};
+ghost use Rattle.journal_text.specs.Journals.{IfFault, IsTextOf, IsNoJournal};
 
 use crate::fault::{JournalFault, JournalKind, JournalRefusal};
 use crate::journal::Journal;
@@ -11,7 +11,7 @@ use word_ops::{List, Step};
 
 /// The journal that the bytes are (docs/outputs.md, "Journal"), or the first line that is broken.
 pub fn read(alloc: Global, bytes: &[u8]) -> Result<Journal, JournalRefusal>
-    ensures journal { IfOk result (λ j. (bytes.now ≡ text_of j) × IsJournal j) }
+    ensures journal { IfOk result (λ j. IsTextOf j bytes.now) }
     ensures fault { IfErr result (λ r. IfFault r (λ f. journal_in bytes.now ≡ Err f)) }
     ensures none { IfErr result (λ r. IfFault r (λ _. IsNoJournal bytes.now)) }
 {
