@@ -1,7 +1,6 @@
 -- The run that is made of a script is one of its program.
-use Rattle.std.proofs.Common.{◌≡◌, ℕ, List, [], ◌++◌, map, Some, refl, sym, ap, ◌∙◌, append-nil, lit≤}
+use Rattle.std.proofs.Common.{◌≡◌, ℕ, List, [], ◌++◌, map, Some, ◌≤◌, refl, sym, ap, ◌∙◌, append-nil}
 use Rattle.std.specs.List.{concat}
-use Rattle.word_ops.specs.declared.rules.Rules.TheVariants.{Checked}
 use Rattle.word_ops.specs.declared.ending.End.{End}
 use Rattle.word_ops.specs.declared.ending.End.TheVariants.{Done, Trap, Spent}
 use Rattle.word_ops.specs.declared.traffic.Cell.{Cell}
@@ -19,8 +18,9 @@ use Rattle.world_model.specs.Run.{run_of, end_of, out_text}
 use Rattle.world_model.specs.Traffic.{traffic_of}
 use Rattle.cilk_ast.specs.declared.program.Program.{Program}
 use Rattle.cilk_model.specs.ProgramMeaning.{meaning_of}
-use Rattle.cilk_model.specs.Written.{setting_of, results_text, run_text}
-use Rattle.emu_top.specs.Causes.{IsRunOf, nothing_more}
+use Rattle.cilk_model.specs.Written.{results_text, run_text}
+use Rattle.emu_words.specs.declared.asked.Asked.{Asked}
+use Rattle.emu_top.specs.Causes.{IsRunOf, asked_setting, nothing_more}
 use Rattle.emu_top.specs.declared.ended.Ran.{Ran}
 
 -- where nothing more is wanted nothing follows the ending
@@ -33,11 +33,11 @@ only_the_ending : (u : Setting) (text : List ℕ) (told : List Step) (world : Wo
 only_the_ending u text told world end =
     append-nil _ ∙ append-nil _ ∙ ap (λ x. out_text world ++ ending_line end ++ x) (no_results [] (traffic_of u told) end) ∙ append-nil (out_text world ++ ending_line end)
 
-pub script_is_run : (text : List ℕ) (script : Script) (program : Program) (ran : Ran) → IsSpelled text script → meaning_of program ≡ script_meaning script → ran.told ≡ told_of script →
-    ran.out ≡ map print_bytes script.prints → ran.end ≡ Done (chain_value script.value) → IsRunOf text ran
-script_is_run text script program ran spelled meaning told out end =
-    let u : Setting = setting_of program 8 1000000 Checked in
-    let run = scripts_run script u meaning (lit≤ tt) in
+pub script_is_run : (asked : Asked) (text : List ℕ) (script : Script) (program : Program) (ran : Ran) → 1 ≤ asked.turns → IsSpelled text script → meaning_of program ≡ script_meaning script → ran.told ≡ told_of script →
+    ran.out ≡ map print_bytes script.prints → ran.end ≡ Done (chain_value script.value) → IsRunOf asked text ran
+script_is_run asked text script program ran some_turns spelled meaning told out end =
+    let u : Setting = asked_setting asked program in
+    let run = scripts_run script u meaning some_turns in
     let leads_to : run_of u ran.told ≡ Some run.0 = ap (run_of u) told ∙ run.1.leads_to in
     let pieces : ran.out ≡ run.0.pieces = out ∙ sym run.1.pieces in
     let ends_so : end_of u ran.told [] ≡ Some ran.end = ap (λ t. end_of u t []) told ∙ run.1.ends_so [] ∙ ap (λ e. Some e) (sym end) in

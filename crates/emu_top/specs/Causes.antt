@@ -8,13 +8,14 @@ use Rattle.emu_io.specs.Left.{GaveAll}
 use Rattle.first_path.specs.Scripts.{IsSpelled, NoScript}
 use Rattle.first_run.specs.Lowering.{script_meaning}
 use Rattle.word_ops.specs.declared.rules.Rules.TheVariants.{Checked}
-use Rattle.world_model.specs.World.{World}
+use Rattle.world_model.specs.World.{Setting, World}
 use Rattle.world_model.specs.Run.{run_of, end_of, Rest}
 use Rattle.cilk_ast.specs.declared.program.Program.{Program}
 use Rattle.cilk_model.specs.ProgramMeaning.{meaning_of}
 use Rattle.cilk_model.specs.Written.{Wanted, setting_of, IsWritten as Writes}
 use Rattle.first_path.specs.declared.script.Script.{Script}
-use Rattle.emu_top.specs.Words.{seed_in}
+use Rattle.emu_words.specs.declared.asked.Asked.{Asked}
+use Rattle.emu_top.specs.Words.{request_in, Asks}
 use Rattle.emu_top.specs.Verdicts.{status_of, text_of, ran_of, fault_of}
 use Rattle.emu_top.specs.declared.ended.Ran.{Ran}
 use Rattle.emu_top.specs.declared.ended.Ended.{Ended}
@@ -39,18 +40,21 @@ pub record SpellsProgram (text : List ℕ) (program : Program) : Type 0 where
 abbrev pub nothing_more : Wanted
 nothing_more = record { memory = false; report = false; journal = false; watch = false }
 
--- a run of the program that the text spells, at 8 nodelets with a million turns each, under the checked rules: its
--- steps lead to a world where nothing is possible any more, and its output, its ending and what is written are
--- those of these steps
-pub record IsRunOf (text : List ℕ) (ran : Ran) : Type 0 where
+-- a program at the nodelets and turns that were asked for, under the checked rules
+abbrev pub asked_setting : Asked → Program → Setting
+asked_setting asked program = setting_of program asked.n asked.turns Checked
+
+-- a run of the program that the text spells, as it was asked for: its steps lead to a world where nothing is
+-- possible any more, and its output, its ending and what is written are those of these steps
+pub record IsRunOf (asked : Asked) (text : List ℕ) (ran : Ran) : Type 0 where
   pub program : Program
   pub spells : SpellsProgram text program
   pub world : World
-  pub leads_to : run_of (setting_of program 8 1000000 Checked) ran.told ≡ Some world
-  pub rests : Rest (setting_of program 8 1000000 Checked) world
+  pub leads_to : run_of (asked_setting asked program) ran.told ≡ Some world
+  pub rests : Rest (asked_setting asked program) world
   pub out : ran.out ≡ world.pieces
-  pub ends_so : end_of (setting_of program 8 1000000 Checked) ran.told [] ≡ Some ran.end
-  pub written : Writes nothing_more (setting_of program 8 1000000 Checked) text ran.told [] (text_of (HasRun ran))
+  pub ends_so : end_of (asked_setting asked program) ran.told [] ≡ Some ran.end
+  pub written : Writes nothing_more (asked_setting asked program) text ran.told [] (text_of (HasRun ran))
 
 -- a text was read whole, which is not too long, and is so
 pub record HasText (left_before left_after : Option (List ℕ)) (P : List ℕ → Type 0) : Type 0 where
@@ -61,11 +65,11 @@ pub record HasText (left_before left_after : Option (List ℕ)) (P : List ℕ �
 
 -- the cause of a verdict: what the words ask for, what the source counted, and what it gave
 abbrev pub HasCause : List (List ℕ) → ℕ → ℕ → Option (List ℕ) → Option (List ℕ) → Verdict → Type 0
-HasCause words faults_before faults_after left_before left_after BadWords = seed_in words ≡ None
-HasCause words faults_before faults_after left_before left_after Unread = IsSome (seed_in words) × Rose faults_before faults_after
-HasCause words faults_before faults_after left_before left_after TooLong = IsSome (seed_in words) × IfSome left_before (λ text. text_limit < length text)
-HasCause words faults_before faults_after left_before left_after (Refused fault) = IsSome (seed_in words) × (fault ≡ unbuilt) × HasText left_before left_after NoScript
-HasCause words faults_before faults_after left_before left_after (HasRun ran) = IsSome (seed_in words) × HasText left_before left_after (λ text. IsRunOf text ran)
+HasCause words faults_before faults_after left_before left_after BadWords = request_in words ≡ None
+HasCause words faults_before faults_after left_before left_after Unread = IsSome (request_in words) × Rose faults_before faults_after
+HasCause words faults_before faults_after left_before left_after TooLong = IsSome (request_in words) × IfSome left_before (λ text. text_limit < length text)
+HasCause words faults_before faults_after left_before left_after (Refused fault) = IsSome (request_in words) × (fault ≡ unbuilt) × HasText left_before left_after NoScript
+HasCause words faults_before faults_after left_before left_after (HasRun ran) = Asks words (λ asked. HasText left_before left_after (λ text. IsRunOf asked text ran))
 
 -- all bytes are written, and the status is the verdict's; or the sink's faults rose, a beginning of the bytes is
 -- written, and the status is 6
@@ -82,8 +86,8 @@ pub record IsAnswer (words : List (List ℕ)) (source_before source_after : ℕ)
   pub fault : ended.fault ≡ fault_of verdict
   pub written : IsWritten (text_of verdict) ended.status (status_of verdict) sink_before sink_after held_before held_after
 
--- the verdict on a text alone
-abbrev pub JudgesText : List ℕ → Verdict → Type 0
-JudgesText text (Refused fault) = (fault ≡ unbuilt) × NoScript text
-JudgesText text (HasRun ran) = IsRunOf text ran
-JudgesText text _ = ⊥
+-- the verdict on a text alone, as a run of it was asked for
+abbrev pub JudgesText : Asked → List ℕ → Verdict → Type 0
+JudgesText asked text (Refused fault) = (fault ≡ unbuilt) × NoScript text
+JudgesText asked text (HasRun ran) = IsRunOf asked text ran
+JudgesText asked text _ = ⊥

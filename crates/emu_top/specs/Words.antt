@@ -1,10 +1,26 @@
--- What the words of a call ask for.
-use Rattle.std.specs.Prelude.{ℕ, List, [], ◌∷◌, ◌&&◌, nat_eq, if◌then◌else◌, Option, None, codes}
-use Rattle.std.specs.Cmp.Lexicographic.{pointwise}
-use Rattle.word_ops.specs.Numbers.{count_in}
+-- What the words of a call ask for, as far as it is built.
+use Rattle.std.specs.Prelude.{◌≡◌, ℕ, List, ◌&&◌, not, Bool, true, false, if◌then◌else◌, Option, Some, None, is_some, option_and_then}
+use Rattle.emu_words.specs.Asking.{asked_of}
+use Rattle.emu_words.specs.declared.asked.Asked.{Asked}
+use Rattle.emu_words.specs.declared.asked.Mode.{Mode}
+use Rattle.emu_words.specs.declared.asked.Mode.TheVariants.{Run}
 
--- the number that picks the schedule of a serial run: the words are `run`, `--serial` and a number of 64 bits
-abbrev pub seed_in : List (List ℕ) → Option ℕ
-seed_in (mode ∷ option ∷ number ∷ []) =
-    if pointwise nat_eq mode (codes "run") && pointwise nat_eq option (codes "--serial") then count_in number 0 18446744073709551615 else None
-seed_in words = None
+-- the mode is that of a run
+abbrev pub is_run : Mode → Bool
+is_run Run = true
+is_run _ = false
+
+-- what is built so far: a run of a text that is read, of which the output and the ending are wanted
+abbrev pub is_built : Asked → Bool
+is_built asked =
+    is_run asked.mode && not asked.report && not asked.memory && not asked.journal && not asked.watch && not (is_some asked.workload)
+
+-- what the words ask for, where it is built
+abbrev pub request_in : List (List ℕ) → Option Asked
+request_in words = option_and_then (λ asked. if is_built asked then Some asked else None) (asked_of words)
+
+-- the words ask for something that is built, of which this holds
+pub record Asks (words : List (List ℕ)) (P : Asked → Type 0) : Type 0 where
+  pub asked : Asked
+  pub words_ask : request_in words ≡ Some asked
+  pub holds : P asked

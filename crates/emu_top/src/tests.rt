@@ -87,16 +87,40 @@ fn refused(alloc: Global, texts: &[&str]) -> Result<bool, AllocError> {
     Ok(answer.0 == 2 && answer.1.as_slice() == b"fault: words\n".as_slice())
 }
 
+fn done(alloc: Global, texts: &[&str]) -> Result<bool, AllocError> {
+    let answer = asked(alloc, texts)?;
+    Ok(answer.0 == 0 && answer.1.as_slice() == b"14\nend: done 0\n".as_slice())
+}
+
+#[test]
+fn words_of_a_run_are_taken(rt: HostRuntime) -> Result<(), Fail> {
+    assert!(rt; done(rt.alloc(), &["run"])?);
+    assert!(rt; done(rt.alloc(), &["run", "--nodelets", "64"])?);
+    assert!(rt; done(rt.alloc(), &["--turns=1", "run", "--serial", "7"])?);
+    Ok(())
+}
+
 #[test]
 fn other_words_ask_for_nothing(rt: HostRuntime) -> Result<(), Fail> {
     assert!(rt; refused(rt.alloc(), &[])?);
-    assert!(rt; refused(rt.alloc(), &["run"])?);
-    assert!(rt; refused(rt.alloc(), &["run", "--serial"])?);
-    assert!(rt; refused(rt.alloc(), &["run", "--serial", "-1"])?);
+    assert!(rt; refused(rt.alloc(), &["run", "--nodelets", "65"])?);
+    assert!(rt; refused(rt.alloc(), &["run", "--turns", "0"])?);
     assert!(rt; refused(rt.alloc(), &["run", "--serial", "18446744073709551616"])?);
     assert!(rt; refused(rt.alloc(), &["run", "--serial", "0", "0"])?);
-    assert!(rt; refused(rt.alloc(), &["check", "--serial", "0"])?);
-    assert!(rt; refused(rt.alloc(), &["run", "--turns", "5"])?);
+    Ok(())
+}
+
+#[test]
+fn words_that_are_not_built_ask_for_nothing(rt: HostRuntime) -> Result<(), Fail> {
+    for mode in [
+        "check", "emit", "gen", "replay", "audit", "exec", "time", "upgrade",
+    ] {
+        assert!(rt; refused(rt.alloc(), &[mode])?);
+    }
+    for flag in ["--report", "--memory", "--record", "--watch"] {
+        assert!(rt; refused(rt.alloc(), &["run", flag])?);
+    }
+    assert!(rt; refused(rt.alloc(), &["run", "--workload", "0"])?);
     Ok(())
 }
 

@@ -1,12 +1,13 @@
-ghost use Rattle.std.specs.Prelude.{◌≡◌, IfOk, OnErr, map, string_bytes};
+ghost use Rattle.std.specs.Prelude.{◌≡◌, ◌≤◌, IfOk, OnErr, map, string_bytes};
 ghost use Rattle.emu_top.specs.Causes.{HasCause, IsAnswer, JudgesText};
 
 use crate::ended::Ended;
 use crate::run::run;
 use crate::verdict::{Verdict, ended, text};
-use crate::words::seed;
+use crate::words::request;
 use cilk_ast::{FaultKind, TextFault};
 use emu_io::{ReadRefusal, Sink, Source, read_all, write_all};
+use emu_words::Asked;
 use first_path::{Unread, read_script};
 use first_run::program;
 use std::alloc::{AllocError, Global};
@@ -23,9 +24,10 @@ const UNBUILT: TextFault = TextFault {
     kind: FaultKind::Unbuilt,
 };
 
-/// What a text comes to.
-fn judged(alloc: Global, text: &[u8]) -> Result<Verdict, AllocError>
-    ensures { IfOk result (JudgesText text.now) }
+/// What a text comes to, as a run of it was asked for.
+fn judged(alloc: Global, asked: &Asked, text: &[u8]) -> Result<Verdict, AllocError>
+    requires { 1 ≤ asked.now.turns }
+    ensures { IfOk result (JudgesText asked.now text.now) }
 {
     match read_script(alloc, text) {
         Ok(script) => {
@@ -43,10 +45,10 @@ fn judged(alloc: Global, text: &[u8]) -> Result<Verdict, AllocError>
 fn judge<S: Source>(alloc: Global, words: &[String], source: &mut S) -> Result<Verdict, AllocError>
     ensures { IfOk result (HasCause (map string_bytes words.now) (S.faults source.old) (S.faults source.new) (S.left source.old) (S.left source.new)) }
 {
-    match seed(words) {
+    match request(alloc, words)? {
         None => Ok(Verdict::BadWords),
-        Some(_) => match read_all(alloc, source, TEXT_LIMIT) {
-            Ok(text) => judged(alloc, text.as_slice()),
+        Some(asked) => match read_all(alloc, source, TEXT_LIMIT) {
+            Ok(text) => judged(alloc, &asked, text.as_slice()),
             Err(ReadRefusal::Fault) => Ok(Verdict::Unread),
             Err(ReadRefusal::TooLong) => Ok(Verdict::TooLong),
             Err(ReadRefusal::OutOfMemory) => Err(AllocError),

@@ -1,21 +1,38 @@
-ghost use Rattle.std.specs.Prelude.{◌≡◌, map, string_bytes};
-ghost use Rattle.emu_top.specs.Words.{seed_in};
+ghost use Rattle.std.specs.Prelude.{◌≡◌, IfOk, IfSome, MatchOption, None, Some, map, string_bytes};
+ghost use Rattle.emu_words.specs.Asking.{InRange};
+ghost use Rattle.emu_top.specs.Words.{is_built as is_built_now, request_in};
 
-use word_ops::read_count;
+use emu_words::{Asked, Mode, WordsRefusal, read};
+use std::alloc::{AllocError, Global};
 
-/// The seed that the words ask for: they are exactly `run`, `--serial` and a number (docs/language.md,
-/// "What is built").
-pub(crate) fn seed(words: &[String]) -> Option<u64>
-    ensures { result ≡ seed_in (map string_bytes words.now) }
+/// Whether it is built so far: a run of a text that is read, of which the output and the ending are
+/// wanted (docs/language.md, "What is built").
+fn is_built(asked: &Asked) -> bool
+    ensures { result ≡ is_built_now asked.now }
 {
-    match words {
-        [mode, option, number] => {
-            if mode.as_bytes() == b"run".as_slice() && option.as_bytes() == b"--serial".as_slice() {
-                read_count(number.as_bytes(), 0, u64::MAX)
+    asked.mode == Mode::Run
+        && !asked.report
+        && !asked.memory
+        && !asked.journal
+        && !asked.watch
+        && !asked.workload.is_some()
+}
+
+/// What the words ask for, where it is built (docs/outputs.md, "Command line").
+pub(crate) fn request(alloc: Global, words: &[String]) -> Result<Option<Asked>, AllocError>
+    ensures asked { IfOk result (λ request. MatchOption request (request_in (map string_bytes words.now) ≡ None)
+        (λ asked. request_in (map string_bytes words.now) ≡ Some asked)) }
+    ensures range { IfOk result (λ request. IfSome request InRange) }
+{
+    match read(alloc, words) {
+        Ok(asked) => {
+            if is_built(&asked) {
+                Ok(Some(asked))
             } else {
-                None
+                Ok(None)
             }
         }
-        _ => None,
+        Err(WordsRefusal::BadWords) => Ok(None),
+        Err(WordsRefusal::OutOfMemory) => Err(AllocError),
     }
 }

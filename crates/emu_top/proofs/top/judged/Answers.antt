@@ -8,4 +8,4 @@ program-requires c = spelled_scripts_fit c.args.text.now c.in-Ok.script c.in-Ok.
 pub returns-in_ok-ran-in-Ok : goal.returns-in_ok-ran-in-Ok
 returns-in_ok-ran-in-Ok c =
     let ran = c.in_ok-ran-in-Ok.ensures in
-    script_is_run c.args.text.now c.in-Ok.script c.in_ok-_program-in-Ok._program c.in_ok-ran-in-Ok.ran c.in-Ok.ensures.spelled c.in_ok-_program-in-Ok.ensures.meaning ran.told ran.out ran.end
+    script_is_run c.args.asked.now c.args.text.now c.in-Ok.script c.in_ok-_program-in-Ok._program c.in_ok-ran-in-Ok.ran c.requires c.in-Ok.ensures.spelled c.in_ok-_program-in-Ok.ensures.meaning ran.told ran.out ran.end
