@@ -1,0 +1,14 @@
+pub mod Operands
+pub mod Naming
+pub mod Machine
+pub mod Running
+pub mod Rules
+pub mod Ways
+pub mod Breaches
+pub mod Laws
+pub mod Walking
+pub mod Sound
+pub mod Fitting
+pub mod Following
+pub mod Judging
+pub mod Verdict
