@@ -1,0 +1,12 @@
+pub mod Standing
+pub mod Steps
+pub mod Makes
+pub mod Choices
+pub mod KeptParts
+pub mod Emits
+pub mod PartForms
+pub mod Bounds
+pub mod Gained
+pub mod Taken
+pub mod Emitting
+pub mod ExpressionLaws
