@@ -45,17 +45,17 @@ built_in at built.Migrate (p ∷ []) = code.Move at p
 built_in at built.NodeId [] = Where
 built_in at which args = code.Alloc at which args
 
-module _ (names : Names) (frame : Frame) where
-  -- The word of a variable.
-  abbrev pub variable : Pos → Option Entity → Expr
-  variable at (Some (local l)) = Slot (slot_in frame l.number)
-  variable at other = code.Load at (Word (address_of other))
+-- The word of a variable.
+abbrev pub variable : Frame → Pos → Option Entity → Expr
+variable frame at (Some (local l)) = Slot (slot_in frame l.number)
+variable frame at other = code.Load at (Word (address_of other))
 
+module _ (names : Names) (frame : Frame) where
   -- An expression in a function with this frame.
   abbrev mutual
     pub expression : TExpr → Expr
     expression (Number at value) = Word value
-    expression (Var at name) = variable at (names name)
+    expression (Var at name) = variable frame at (names name)
     expression (Paren at inner) = expression inner
     expression (Un at op inner) = code.Un at op (expression inner)
     expression (Deref at inner) = code.Load at (expression inner)

@@ -36,4 +36,5 @@ pub mod Checked
 pub mod Texts
 pub mod TreeTokens
 pub mod Layout
+pub mod SameTree
 pub mod Canonical
