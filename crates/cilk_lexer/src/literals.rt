@@ -1,7 +1,7 @@
 //! Literals and their values (docs/language.md, "Tokens").
 
 ghost use Rattle.std.specs.Prelude.{◌≡◌, ◌<◌, ◌≤◌, ◌^◌, ◌-◌, length, drop, take, IsTrue, Some, None, IfSome};
-ghost use Rattle.std.specs.Char.{is_ascii_digit, is_ascii_hexdigit, digit_value as value_of_digit};
+ghost use Rattle.std.specs.Char.{is_ascii_hexdigit, digit_value as value_of_digit};
 ghost use Rattle.std.specs.List.{list_all};
 ghost use Rattle.std.specs.Str.Parse.{digits_value};
 ghost use Rattle.cilk_model.specs.Words.{literal_piece};
@@ -9,6 +9,7 @@ ghost use Rattle.cilk_model.specs.Literals.{number_part as part_of_number, is_de
 
 use cilk_ast::{FaultKind, TokenKind};
 use cilk_model::Piece;
+use word_ops::all_digits;
 
 /// The greatest value of a literal.
 const MAX: u64 = 9_223_372_036_854_775_807;
@@ -21,13 +22,6 @@ fn number_part(run: &[u8]) -> &[u8]
         [number @ .., b'L' | b'l'] => number,
         _ => run,
     }
-}
-
-/// Each byte is a digit.
-fn all_digits(bytes: &[u8]) -> bool
-    ensures { result ≡ list_all is_ascii_digit bytes.now }
-{
-    bytes.iter().all(|byte| byte.is_ascii_digit())
 }
 
 /// Each byte is a hexadecimal digit.

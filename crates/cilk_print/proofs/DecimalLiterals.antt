@@ -11,14 +11,11 @@ use Rattle.std.proofs.lemmas.Fmt.{decimal_is_IsNumeral, digits_decimal, decimal_
 use Rattle.std.proofs.lemmas.Str.Parse.{numerals_by_value, tells_all_ascii_digits}
 use Rattle.std.proofs.lemmas.Bool.{and_parts}
 use Rattle.std.proofs.lemmas.Grind.{common_steps}
+use Rattle.word_ops.proofs.Digits.{all_digits-list_all}
 use Rattle.cilk_model.specs.Literals.{max_literal, number_part, is_decimal, is_hexadecimal, within_literals, literal_value}
 
-all_digits : (ds : List ℕ) → all_ascii_digits ds ≡ list_all is_ascii_digit ds
-all_digits [] = refl
-all_digits (d ∷ ds) = ap (λ rest. is_ascii_digit d && rest) (all_digits ds)
-
 pub decimal_digits : (n : ℕ) → n < 2 ^ 64 → list_all is_ascii_digit (decimal n) ≡ true
-decimal_digits n h = sym (all_digits (decimal n)) ∙ digits_decimal (numerals_by_value (λ ds. all_ascii_digits ds ≡ true) tells_all_ascii_digits) n h
+decimal_digits n h = sym (all_digits-list_all (decimal n)) ∙ digits_decimal (numerals_by_value (λ ds. all_ascii_digits ds ≡ true) tells_all_ascii_digits) n h
 
 -- a byte of digits, or what stands behind them
 digit_at : (ds : List ℕ) (i : ℕ) → list_all is_ascii_digit ds ≡ true → (is_ascii_digit (get_or ds i 0) ≡ true) ⊎ (get_or ds i 0 ≡ 0)

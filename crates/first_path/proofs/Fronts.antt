@@ -12,6 +12,7 @@ use Rattle.std.specs.Str.Parse.{digits_value}
 use Rattle.std.proofs.lemmas.Fmt.{digits_decimal, digits_value-decimal, decimal_nonempty, first_decimal, length-decimal-le, decimal-digits_value}
 use Rattle.std.proofs.lemmas.Grind.{common_steps}
 use Rattle.std.proofs.lemmas.Str.Parse.{IsNumeralModel, numerals_by_value, tells_all_ascii_digits}
+use Rattle.word_ops.proofs.Digits.{all_digits-list_all}
 use Rattle.word_ops.specs.Numbers.{count_in, is_count}
 use Rattle.first_path.specs.Lexemes.{is_word_byte, is_word, is_written, goes_on, spelling}
 use Rattle.first_path.specs.Reading.{word_at, mark_at, literal_at, same_bytes}
@@ -46,10 +47,6 @@ pub digits_are_words : (ds : List ℕ) → all_ascii_digits ds ≡ true → list
 digits_are_words [] digits = refl
 digits_are_words (d ∷ ds) digits = grind (arith, common_steps, digits_are_words ds)
 
-all_digits-list_all : (ds : List ℕ) → list_all is_ascii_digit ds ≡ all_ascii_digits ds
-all_digits-list_all [] = refl
-all_digits-list_all (d ∷ ds) = ap (λ rest. is_ascii_digit d && rest) (all_digits-list_all ds)
-
 -- digits are no word that begins with a letter
 digits_are_no_letters : (ds : List ℕ) (k : ℕ) (ks : List ℕ) → all_ascii_digits ds ≡ true → 57 < k → same_bytes ds (k ∷ ks) ≡ false
 digits_are_no_letters [] k ks digits letter = refl
@@ -66,7 +63,7 @@ pub record IsLiteral (ds : List ℕ) : Type 0 where
   pub small : digits_value 10 ds ≤ 9223372036854775807
 
 count_in-literal : (ds : List ℕ) → IsLiteral ds → count_in ds 0 9223372036854775807 ≡ Some (digits_value 10 ds)
-count_in-literal ds is = rw (le-leb 1 (length ds) is.some, le-leb (length ds) 20 is.few, all_digits-list_all ds, is.digits, le-leb 0 (digits_value 10 ds) (omega arith), le-leb (digits_value 10 ds) 9223372036854775807 is.small) refl
+count_in-literal ds is = rw (le-leb 1 (length ds) is.some, le-leb (length ds) 20 is.few, sym (all_digits-list_all ds), is.digits, le-leb 0 (digits_value 10 ds) (omega arith), le-leb (digits_value 10 ds) 9223372036854775807 is.small) refl
 
 pub word_at-literal : (ds : List ℕ) → IsLiteral ds → word_at ds ≡ Some (Literal (pos (digits_value 10 ds)))
 word_at-literal ds is =
@@ -179,7 +176,7 @@ count_in-sound ds n found =
     let some = leb-true 1 (length ds) (both_true (nat_le 1 (length ds)) (nat_le (length ds) 20) lengths.0).0 in
     let most = leb-true v 9223372036854775807 outer.1 in
     record {
-      digits = sym (all_digits-list_all ds) ∙ lengths.1;
+      digits = all_digits-list_all ds ∙ lengths.1;
       some = some;
       value = sym taken.1;
       small = omega (arith, most, taken.1);

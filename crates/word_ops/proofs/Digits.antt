@@ -20,7 +20,7 @@ pub digit_value_at : (text : List ℕ) (i : ℕ) → list_all is_ascii_digit tex
 digit_value_at text i all below = digit_value_digit (get_or text i 0) (digit_at text i all below)
 
 -- the two tests for a text of digits agree
-all_digits-list_all : (text : List ℕ) → all_ascii_digits text ≡ list_all is_ascii_digit text
+pub all_digits-list_all : (text : List ℕ) → all_ascii_digits text ≡ list_all is_ascii_digit text
 all_digits-list_all [] = refl
 all_digits-list_all (c ∷ cs) = ap (λ rest. is_ascii_digit c && rest) (all_digits-list_all cs)
 

@@ -25,7 +25,7 @@ pub use operators::{BinaryOp, Divide, UnaryOp, binary, unary};
 pub use place::Pos;
 pub use rules::Rules;
 pub use step::{Counts3, Entry, NodeEvent, Step};
-pub use text::{push_decimal, read_count};
+pub use text::{all_digits, push_decimal, read_count};
 pub use ticket::Ticket;
 pub use traffic::{Cell, Traffic};
 

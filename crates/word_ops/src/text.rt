@@ -18,8 +18,8 @@ pub fn push_decimal(out: &mut List<u8>, x: i64) -> Result<(), AllocError>
     out.extend_from_slice(buffer.format(x).as_bytes())
 }
 
-/// Each byte of `text` is an ASCII digit.
-fn all_digits(text: &[u8]) -> bool
+/// Each byte of `text` is an ASCII digit, as in an empty text.
+pub fn all_digits(text: &[u8]) -> bool
     ensures { result ≡ list_all is_ascii_digit text.now }
 {
     text.iter().all(|byte| byte.is_ascii_digit())
