@@ -30,24 +30,33 @@ cannot_divide x y = same_word y (pos 0) || (same_word x least_word && same_word 
 abbrev pub shift_count : ℤ → ℕ
 shift_count y = cast_unsigned w64 y % 64
 
+-- what a comparison tells of two words
+abbrev pub compares : BinaryOp → ℤ → ℤ → Bool
+compares Lt x y = int_lt x y
+compares Le x y = int_le x y
+compares Gt x y = int_lt y x
+compares Ge x y = int_le y x
+compares Eq x y = same_word x y
+compares Ne x y = not (same_word x y)
+compares _ x y = false
+
+-- the word that an operator which is no division makes of two words
+abbrev pub word_of_two : BinaryOp → ℤ → ℤ → ℤ
+word_of_two Add x y = int_wrapping_add w64 x y
+word_of_two Sub x y = int_wrapping_sub w64 x y
+word_of_two Mul x y = int_wrapping_mul w64 x y
+word_of_two Shl x y = int_shl w64 x (shift_count y)
+word_of_two Shr x y = int_shr x (shift_count y)
+word_of_two And x y = int_bit_and w64 x y
+word_of_two Xor x y = int_bit_xor w64 x y
+word_of_two Or x y = int_bit_or w64 x y
+word_of_two comparison x y = truth_of (compares comparison x y)
+
 -- the word that an operator makes of two words, or none where a division has no quotient
 abbrev pub binary_of : BinaryOp → ℤ → ℤ → Option ℤ
-binary_of Add x y = Some (int_wrapping_add w64 x y)
-binary_of Sub x y = Some (int_wrapping_sub w64 x y)
-binary_of Mul x y = Some (int_wrapping_mul w64 x y)
 binary_of Div x y = if cannot_divide x y then None else Some (int_div x y)
 binary_of Rem x y = if cannot_divide x y then None else Some (int_rem x y)
-binary_of Shl x y = Some (int_shl w64 x (shift_count y))
-binary_of Shr x y = Some (int_shr x (shift_count y))
-binary_of Lt x y = Some (truth_of (int_lt x y))
-binary_of Le x y = Some (truth_of (int_le x y))
-binary_of Gt x y = Some (truth_of (int_lt y x))
-binary_of Ge x y = Some (truth_of (int_le y x))
-binary_of Eq x y = Some (truth_of (same_word x y))
-binary_of Ne x y = Some (truth_of (not (same_word x y)))
-binary_of And x y = Some (int_bit_and w64 x y)
-binary_of Xor x y = Some (int_bit_xor w64 x y)
-binary_of Or x y = Some (int_bit_or w64 x y)
+binary_of other x y = Some (word_of_two other x y)
 
 -- the word that an operator makes of one word
 abbrev pub unary_of : UnaryOp → ℤ → ℤ
