@@ -132,21 +132,30 @@ joined u w name s d =
 
 -- ---- all actions
 
+-- The world after an action on words that is done: it reads, changes or takes some.
+abbrev pub memory_effect : Setting → World → Name → Strand → Action → Option World
+memory_effect u w name s (Load at a) = Some (loaded u w name s a)
+memory_effect u w name s (Issue at op a v) = Some (issued u w name s at op a v)
+memory_effect u w name s (Fetch at f a) = Some (exchanged u w name s f a)
+memory_effect u w name s (Init at a v) = Some (initialized u w name s at a v)
+memory_effect u w name s (Alloc request) = Some (served_with u w name s request (taken_from u.nodelets s.place request))
+memory_effect u w name s _ = None
+
+-- The world after an action that names no child.
+abbrev pub own_effect : Setting → World → Name → Strand → Action → Option World
+own_effect u w name s Turn = Some (goes_on (with_turn w s.place) name s s.place [])
+own_effect u w name s Fence = Some (goes_on w name s s.place [])
+own_effect u w name s (Move at a) = Some (goes_on w name s (owner_of a s.place u.nodelets) [])
+own_effect u w name s Where = Some (goes_on w name s s.place (pos s.place ∷ []))
+own_effect u w name s (Print bytes) = Some (goes_on (with_piece w bytes) name s 0 [])
+own_effect u w name s (Spawn _ _ _ _) = None
+own_effect u w name s (Sync d) = Some (joined u w name s d)
+own_effect u w name s (End value) = Some (with_strand w name (record s { status = Ended value }))
+own_effect u w name s (Trap at kind) = Some (with_strand w name (with_trap s s.place kind at))
+own_effect u w name s access = memory_effect u w name s access
+
 -- The world after an action that is done; a child is named for a Spawn alone.
 abbrev pub effect : Setting → World → Name → Strand → Option Name → Action → Option World
 effect u w name s (Some child) (Spawn d function args hint) = spawned u w name s child d function args hint
-effect u w name s None (Spawn _ _ _ _) = None
 effect u w name s (Some child) _ = None
-effect u w name s None Turn = Some (goes_on (with_turn w s.place) name s s.place [])
-effect u w name s None (Load at a) = Some (loaded u w name s a)
-effect u w name s None (Issue at op a v) = Some (issued u w name s at op a v)
-effect u w name s None (Fetch at f a) = Some (exchanged u w name s f a)
-effect u w name s None (Init at a v) = Some (initialized u w name s at a v)
-effect u w name s None Fence = Some (goes_on w name s s.place [])
-effect u w name s None (Move at a) = Some (goes_on w name s (owner_of a s.place u.nodelets) [])
-effect u w name s None Where = Some (goes_on w name s s.place (pos s.place ∷ []))
-effect u w name s None (Print bytes) = Some (goes_on (with_piece w bytes) name s 0 [])
-effect u w name s None (Alloc request) = Some (served_with u w name s request (taken_from u.nodelets s.place request))
-effect u w name s None (Sync d) = Some (joined u w name s d)
-effect u w name s None (End value) = Some (with_strand w name (record s { status = Ended value }))
-effect u w name s None (Trap at kind) = Some (with_strand w name (with_trap s s.place kind at))
+effect u w name s None action = own_effect u w name s action
