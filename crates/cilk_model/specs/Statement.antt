@@ -53,6 +53,32 @@ module _ (depth function : ℕ) (copies : List ℤ) (high : ℤ) (next : Targets
       then make (act.Spawn depth function (i ∷ copies) None) (λ _. spawns_each n (int_wrapping_add w64 i (pos 1)) (targets ++ None ∷ []))
       else next targets)
 
+-- Evaluates an expression, and goes on by its word at the same slots and targets.
+abbrev pub evaluates : Calling → Expr → (ℤ → Flow) → Flow
+evaluates call e next slots targets = value call e slots (λ x. next x slots targets)
+
+-- Adds a word to the word at an address: that is loaded first, and then what is added is evaluated.
+abbrev pub adds : Calling → Pos → ℤ → Expr → Flow → Flow
+adds call at a e next slots targets =
+    make (act.Load at a) (λ old. value call e slots (λ v. stores at a (int_wrapping_add w64 (word_of old) v) (next slots targets)))
+
+-- Spawns a child of the activation at a depth: its hint is evaluated first, then its arguments.
+abbrev pub starts : Calling → ℕ → Pos → Option ℕ → ℕ → Option Expr → List Expr → Flow → Flow
+starts call depth at target function hint args next slots targets =
+    hinted call at hint slots (λ place. values_of call args slots (λ words.
+    make (act.Spawn depth function words place) (λ _. next slots (targets ++ target ∷ []))))
+
+-- Goes one of two ways by the word of a test.
+abbrev pub chooses : Calling → Expr → Flow → Flow → Flow
+chooses call test yes_ no_ = evaluates call test (λ x slots targets. if is_true x then yes_ slots targets else no_ slots targets)
+
+-- Spawns a child for each number from one bound up to another, with copies of slots, and joins them all. The
+-- bounds are evaluated once.
+abbrev pub deals : Calling → ℕ → Expr → Expr → ℕ → List ℕ → Flow → ℕ → Flow
+deals call depth low high function copies next fuel =
+    evaluates call low (λ i. evaluates call high (λ bound slots.
+    spawns_each depth function (map (word_at slots) copies) bound (syncs depth next slots) fuel i))
+
 -- An activation at a depth: how it calls, whether its function spawns, how many turns its loops can have, and
 -- what is done with what it returns.
 module _ (call : Calling) (depth : ℕ) (spawns : Bool) (fuel : ℕ) (done : ℤ → Acts) where
@@ -61,26 +87,18 @@ module _ (call : Calling) (depth : ℕ) (spawns : Bool) (fuel : ℕ) (done : ℤ
     pub runs : Stmt → Flow → Flow → Flow → Flow
     runs Nothing next broken continued = next
     runs (Block' n body) next broken continued = runs_all body next broken continued
-    runs (Eval e) next broken continued = λ slots targets. value call e slots (λ _. next slots targets)
-    runs (Set slot e) next broken continued = λ slots targets. value call e slots (λ x. next (slice_set slots slot x) targets)
-    runs (Store at address e) next broken continued = λ slots targets.
-        value call address slots (λ a. value call e slots (λ v. stores at a v (next slots targets)))
-    runs (AddTo at address e) next broken continued = λ slots targets.
-        value call address slots (λ a. make (act.Load at a) (λ old. value call e slots (λ v.
-        stores at a (int_wrapping_add w64 (word_of old) v) (next slots targets))))
-    runs (Spawn at target function hint args) next broken continued = λ slots targets.
-        hinted call at hint slots (λ place. values_of call args slots (λ words.
-        make (act.Spawn depth function words place) (λ _. next slots (targets ++ target ∷ []))))
-    runs (If test yes_ no_) next broken continued = λ slots targets.
-        value call test slots (λ x. if is_true x then runs yes_ next broken continued slots targets else runs no_ next broken continued slots targets)
+    runs (Eval e) next broken continued = evaluates call e (λ _. next)
+    runs (Set slot e) next broken continued = evaluates call e (λ x slots. next (slice_set slots slot x))
+    runs (Store at address e) next broken continued = evaluates call address (λ a. evaluates call e (λ v slots targets. stores at a v (next slots targets)))
+    runs (AddTo at address e) next broken continued = evaluates call address (λ a. adds call at a e next)
+    runs (Spawn at target function hint args) next broken continued = starts call depth at target function hint args next
+    runs (If test yes_ no_) next broken continued = chooses call test (runs yes_ next broken continued) (runs no_ next broken continued)
     runs (Loop test step body) next broken continued =
         repeats (value call test) (λ again. runs body again next again) (λ again. runs step again broken continued) next fuel
-    runs (Each at low high function copies) next broken continued = λ slots targets.
-        value call low slots (λ i. value call high slots (λ bound.
-        spawns_each depth function (map (word_at slots) copies) bound (syncs depth next slots) fuel i targets))
+    runs (Each at low high function copies) next broken continued = deals call depth low high function copies next fuel
     runs Break next broken continued = broken
     runs Continue next broken continued = continued
-    runs (Return e) next broken continued = λ slots targets. value call e slots (λ x. returns depth spawns done x slots targets)
+    runs (Return e) next broken continued = evaluates call e (returns depth spawns done)
     runs Sync next broken continued = syncs depth next
 
     pub runs_all : {n : _} → Stmts n → Flow → Flow → Flow → Flow
