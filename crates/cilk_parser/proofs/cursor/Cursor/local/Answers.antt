@@ -1,0 +1,17 @@
+use Rattle.std.proofs.Common.{◌∙◌, ap}
+use Rattle.cilk_parser.specs.Parsers.{goes_on}
+use Rattle.cilk_parser.proofs.Steps.{passes}
+use Rattle.cilk_parser.proofs.CodeStatements.{local_step}
+use Rattle.cilk_parser.proofs.cursor.Cursor.local.Goals as goal
+
+pub returns-in_err-pos-clause-reads : goal.returns-in_err-pos-clause-reads
+returns-in_err-pos-clause-reads c =
+    passes _ _ _ _ _ _ c.from_residual.ensures.1 c.in_err-pos.ensures.reads (local_step _ ∙ ap (goes_on _) c.star-kind.ensures.reads)
+
+pub returns-in_err-value-clause-reads : goal.returns-in_err-value-clause-reads
+returns-in_err-value-clause-reads c =
+    passes _ _ _ _ _ _ c.from_residual-in_err-value.ensures.1 c.in_err-value.ensures.reads (local_step _ ∙ ap (goes_on _) c.star-kind.ensures.reads ∙ ap (goes_on _) c.in_ok-pos.ensures.reads)
+
+pub returns-clause-reads : goal.returns-clause-reads
+returns-clause-reads c =
+    local_step _ ∙ ap (goes_on _) c.star-kind.ensures.reads ∙ ap (goes_on _) c.in_ok-pos.ensures.reads ∙ ap (goes_on _) c.in_ok-value.ensures.reads

@@ -1,0 +1,12 @@
+pub mod Parsers
+pub mod Kinds
+pub mod Reading
+pub mod Read
+pub mod Lookup
+pub mod Meanings
+pub mod Gives
+pub mod Parts
+pub mod Refused
+pub mod NestingOf
+pub mod Spelled
+pub mod Laws

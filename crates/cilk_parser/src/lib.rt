@@ -1,0 +1,23 @@
+//! From tokens to the tree that they spell.
+#![tactic(auto)]
+
+mod calls;
+mod cursor;
+mod expressions;
+mod items;
+mod levels;
+mod lexemes;
+mod loops;
+mod nesting;
+mod parsing;
+mod signs;
+mod simple;
+mod statements;
+mod stop;
+mod syntax_laws;
+
+pub use parsing::parse;
+pub use syntax_laws::{law_not_both, law_one_fault, law_one_of_both, law_one_tree};
+
+#[cfg(test)]
+mod tests;
