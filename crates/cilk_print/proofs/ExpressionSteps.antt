@@ -7,7 +7,7 @@ use Rattle.word_ops.specs.declared.operators.UnaryOp.{UnaryOp}
 use Rattle.cilk_ast.specs.declared.kind.Kind.{Kind}
 use Rattle.cilk_ast.specs.declared.builtin.Builtin.{Builtin}
 use Rattle.cilk_ast.specs.declared.tree.TExpr as code
-use Rattle.cilk_ast.specs.declared.tree.TExpr.TheBlock.{shape-the_row-TExpr-0, hidden-the_row-TExpr-0, shape-the_row-TExpr-1, hidden-the_row-TExpr-1}
+use Rattle.cilk_ast.specs.declared.tree.TExpr.TheBlock.{shape-the_row-TExpr-0, hidden-the_row-TExpr-0, hidden-the_row-TExpr-1}
 use Rattle.cilk_ast.specs.declared.tree.TExpr.{TExpr}
 use Rattle.cilk_model.specs.declared.layout.Page.{Page}
 use Rattle.cilk_model.specs.Lexemes as lexeme

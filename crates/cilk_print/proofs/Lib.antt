@@ -17,5 +17,14 @@ pub mod Running
 pub mod Calming
 pub mod WellSpelled
 pub mod WellLexed
-pub mod CanonicalSpells
 pub mod CanonicalOne
+pub mod Sights
+pub mod ShallowRows
+pub mod RowEnds
+pub mod Leads
+pub mod StatementRuns
+pub mod DeclarationRuns
+pub mod ItemRuns
+pub mod LevelForms
+pub mod Levelled
+pub mod CanonicalSpells

@@ -7,7 +7,7 @@ use Rattle.cilk_ast.specs.declared.kind.Kind.TheVariants as kind
 use Rattle.cilk_ast.specs.TreeStatement.{part_of}
 use Rattle.cilk_ast.proofs.TreeStatementForms.{for_form}
 use Rattle.cilk_ast.specs.declared.tree.TStmt as code
-use Rattle.cilk_ast.specs.declared.tree.TStmt.TheBlock.{shape-the_row-TStmt-0, hidden-the_row-TStmt-0, shape-the_row-TStmt-1, hidden-the_row-TStmt-1}
+use Rattle.cilk_ast.specs.declared.tree.TStmt.TheBlock.{hidden-the_row-TStmt-0, shape-the_row-TStmt-1, hidden-the_row-TStmt-1}
 use Rattle.cilk_ast.specs.declared.tree.TExpr.{TExpr}
 use Rattle.cilk_ast.specs.declared.tree.TStmt.{TStmt}
 use Rattle.cilk_ast.specs.declared.tree.TSpawn.{TSpawn}
