@@ -50,13 +50,13 @@ operation_sized : (pieces : List Piece) (own : List Line) → IsSized (in_order 
 operation_sized pieces own all place first =
     let words = in_order pieces in omega (arith, all place first, length-append (words.lines place first) own)
 
-one_sized : (a : Piece) → IsSized a → IsSized (in_order (a ∷ []))
+pub one_sized : (a : Piece) → IsSized a → IsSized (in_order (a ∷ []))
 one_sized a p = in_order_more a [] p (λ place first. refl)
 
-two_sized : (a b : Piece) → IsSized a → IsSized b → IsSized (in_order (a ∷ b ∷ []))
+pub two_sized : (a b : Piece) → IsSized a → IsSized b → IsSized (in_order (a ∷ b ∷ []))
 two_sized a b p q = in_order_more a (b ∷ []) p (one_sized b q)
 
-three_sized : (a b c : Piece) → IsSized a → IsSized b → IsSized c → IsSized (in_order (a ∷ b ∷ c ∷ []))
+pub three_sized : (a b c : Piece) → IsSized a → IsSized b → IsSized c → IsSized (in_order (a ∷ b ∷ c ∷ []))
 three_sized a b c p q r = in_order_more a (b ∷ c ∷ []) p (two_sized b c q r)
 
 both_sized : (at : Pos) (l r : Piece) → IsSized l → IsSized r → IsSized (both at l r)
@@ -121,7 +121,7 @@ request_same at built.MwLocalmalloc xs = refl
 request_same at built.MwMallocrepl xs = refl
 request_same at _ xs = refl
 
-alloc_count : (which : Builtin) (m : ℕ) → allocates which m ≡ true → alloc_operands (kind_of which) ≡ m
+pub alloc_count : (which : Builtin) (m : ℕ) → allocates which m ≡ true → alloc_operands (kind_of which) ≡ m
 alloc_count built.MwMalloc1dlong m h = sym (eqb-true m 1 h)
 alloc_count built.MwMalloc2dlong m h = sym (eqb-true m 2 h)
 alloc_count built.MwLocalmalloc m h = sym (eqb-true m 2 h)

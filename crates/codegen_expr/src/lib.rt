@@ -7,6 +7,8 @@ mod expressions;
 mod own;
 mod pieces;
 mod sizes;
+#[cfg(test)]
+mod tests;
 
 pub use draft::{Draft, NOWHERE};
 pub use expression_laws::law_code_of_expressions_acts;
