@@ -9,7 +9,7 @@ use Rattle.emu_top.specs.declared.ended.Ran.{Ran}
 use Rattle.emu_top.specs.declared.ended.SourceFault.{SourceFault}
 use Rattle.emu_top.specs.declared.ended.SourceFault.TheVariants as source
 use Rattle.emu_top.specs.declared.verdict.Verdict.{Verdict}
-use Rattle.emu_top.specs.declared.verdict.Verdict.TheVariants.{BadWords, Unread, TooLong, Refused, HasRun}
+use Rattle.emu_top.specs.declared.verdict.Verdict.TheVariants.{BadWords, Unread, TooLong, Refused, Printed, HasRun}
 
 -- the status of a run
 abbrev pub end_status : End → ℕ
@@ -23,14 +23,16 @@ status_of BadWords = 2
 status_of Unread = 5
 status_of TooLong = 1
 status_of (Refused fault) = 1
+status_of (Printed bytes) = 0
 status_of (HasRun ran) = end_status ran.end
 
--- the bytes that are to be written: a fault's line, or the output and the ending
+-- the bytes that are to be written: a fault's line, a canonical text, or the output and the ending
 abbrev pub text_of : Verdict → List ℕ
 text_of BadWords = line (codes "fault: words")
 text_of Unread = line (codes "fault: read")
 text_of TooLong = line (codes "fault: too long")
 text_of (Refused fault) = fault_line fault
+text_of (Printed bytes) = bytes
 text_of (HasRun ran) = concat ran.out ++ ending_line ran.end
 
 -- the run, where one was made

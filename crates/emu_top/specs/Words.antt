@@ -3,17 +3,18 @@ use Rattle.std.specs.Prelude.{◌≡◌, ℕ, List, ◌&&◌, not, Bool, true, f
 use Rattle.emu_words.specs.Asking.{asked_of}
 use Rattle.emu_words.specs.declared.asked.Asked.{Asked}
 use Rattle.emu_words.specs.declared.asked.Mode.{Mode}
-use Rattle.emu_words.specs.declared.asked.Mode.TheVariants.{Run}
+use Rattle.emu_words.specs.declared.asked.Mode.TheVariants.{Check, Run}
 
--- the mode is that of a run
-abbrev pub is_run : Mode → Bool
-is_run Run = true
-is_run _ = false
+-- the modes that are built so far
+abbrev pub is_built_mode : Mode → Bool
+is_built_mode Check = true
+is_built_mode Run = true
+is_built_mode _ = false
 
--- what is built so far: a run of a text that is read, of which the output and the ending are wanted
+-- what is built so far: the check of a text that is read, and its run, of which the output and the ending are wanted
 abbrev pub is_built : Asked → Bool
 is_built asked =
-    is_run asked.mode && not asked.report && not asked.memory && not asked.journal && not asked.watch && not (is_some asked.workload)
+    is_built_mode asked.mode && not asked.report && not asked.memory && not asked.journal && not asked.watch && not (is_some asked.workload)
 
 -- what the words ask for, where it is built
 abbrev pub request_in : List (List ℕ) → Option Asked

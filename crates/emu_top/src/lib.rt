@@ -1,6 +1,7 @@
 //! The top call: from the words and the bytes that are read to the bytes that are written.
 #![tactic(auto)]
 
+mod checking;
 mod ended;
 mod run;
 mod texts;

@@ -31,9 +31,9 @@ fn sink(alloc: Global, step: usize, failing: &[u64]) -> Result<MemSink, AllocErr
     Ok(MemSink::new(alloc, step, failing))
 }
 
-/// The status and the bytes of `run --serial 0` on a text.
-fn run(alloc: Global, text: &[u8]) -> Result<(u8, Vec<u8>), AllocError> {
-    let words = words(alloc, &["run", "--serial", "0"])?;
+/// The status and the bytes of these words on a text.
+fn answer(alloc: Global, texts: &[&str], text: &[u8]) -> Result<(u8, Vec<u8>), AllocError> {
+    let words = words(alloc, texts)?;
     let mut source = source(alloc, text, 7, &[])?;
     let mut sink = sink(alloc, 5, &[])?;
     let ended = emu_plain(alloc, words.as_slice(), &mut source, &mut sink)?;
@@ -63,32 +63,48 @@ fn a_text_is_run_from_its_bytes_to_its_bytes(rt: HostRuntime) -> Result<(), Fail
         (b"".as_slice(), 1, b"fault: 1:1 Unbuilt\n".as_slice()),
     ];
     for (text, status, bytes) in rows {
-        let answer = run(rt.alloc(), text)?;
+        let answer = answer(rt.alloc(), &["run", "--serial", "0"], text)?;
         assert_eq!(rt; answer.0, status);
         assert_eq!(rt; answer.1.as_slice(), bytes);
     }
     Ok(())
 }
 
-/// The status and the bytes of these words on a text that would be run.
-fn asked(alloc: Global, texts: &[&str]) -> Result<(u8, Vec<u8>), AllocError> {
-    let words = words(alloc, texts)?;
-    let mut source = source(alloc, SUM, 7, &[])?;
-    let mut sink = sink(alloc, 5, &[])?;
-    let ended = emu_plain(alloc, words.as_slice(), &mut source, &mut sink)?;
-    Ok((
-        ended.status,
-        Vec::from_slice(alloc, sink.bytes().as_slice())?,
-    ))
+#[test]
+fn a_text_is_checked_from_its_bytes_to_its_bytes(rt: HostRuntime) -> Result<(), Fail> {
+    let rows = [
+        (
+            b"int main(){return 0;}".as_slice(),
+            0,
+            b"int main () {\n  return 0;\n}\n".as_slice(),
+        ),
+        (b"".as_slice(), 1, b"fault: 1:1 NoMain\n".as_slice()),
+        (
+            b"int main() { return 09; }".as_slice(),
+            1,
+            b"fault: 1:21 BadLiteral\n".as_slice(),
+        ),
+        (
+            b"int main() { return 0 }".as_slice(),
+            1,
+            b"fault: 1:23 Unexpected\n".as_slice(),
+        ),
+    ];
+    for (text, status, bytes) in rows {
+        let answer = answer(rt.alloc(), &["check"], text)?;
+        assert_eq!(rt; answer.0, status);
+        assert_eq!(rt; answer.1.as_slice(), bytes);
+    }
+    Ok(())
 }
 
 fn refused(alloc: Global, texts: &[&str]) -> Result<bool, AllocError> {
-    let answer = asked(alloc, texts)?;
+    let answer = answer(alloc, texts, SUM)?;
     Ok(answer.0 == 2 && answer.1.as_slice() == b"fault: words\n".as_slice())
 }
 
 fn done(alloc: Global, texts: &[&str]) -> Result<bool, AllocError> {
-    let answer = asked(alloc, texts)?;
+    let answer = answer(alloc, texts, SUM)?;
     Ok(answer.0 == 0 && answer.1.as_slice() == b"14\nend: done 0\n".as_slice())
 }
 
@@ -112,9 +128,7 @@ fn other_words_ask_for_nothing(rt: HostRuntime) -> Result<(), Fail> {
 
 #[test]
 fn words_that_are_not_built_ask_for_nothing(rt: HostRuntime) -> Result<(), Fail> {
-    for mode in [
-        "check", "emit", "gen", "replay", "audit", "exec", "time", "upgrade",
-    ] {
+    for mode in ["emit", "gen", "replay", "audit", "exec", "time", "upgrade"] {
         assert!(rt; refused(rt.alloc(), &[mode])?);
     }
     for flag in ["--report", "--memory", "--record", "--watch"] {
@@ -151,7 +165,7 @@ fn a_read_that_fails_is_told(rt: HostRuntime) -> Result<(), Fail> {
 #[test]
 fn a_text_of_more_than_a_mebibyte_is_too_long(rt: HostRuntime) -> Result<(), Fail> {
     let blanks = vec![in rt.alloc(); b' '; 1_048_577]?;
-    let answer = run(rt.alloc(), blanks.as_slice())?;
+    let answer = answer(rt.alloc(), &["check"], blanks.as_slice())?;
     assert_eq!(rt; answer.0, 1);
     assert_eq!(rt; answer.1.as_slice(), b"fault: too long\n".as_slice());
     Ok(())

@@ -1,13 +1,16 @@
-ghost use Rattle.std.specs.Prelude.{◌≡◌, ◌≤◌, IfOk, OnErr, map, string_bytes};
-ghost use Rattle.emu_top.specs.Causes.{HasCause, IsAnswer, JudgesText};
+ghost use Rattle.std.specs.Prelude.{◌≡◌, ◌≤◌, true, length, IfOk, OnErr, map, string_bytes};
+ghost use Rattle.emu_words.specs.declared.asked.Mode.TheVariants.{Run};
+ghost use Rattle.emu_top.specs.Words.{is_built_mode};
+ghost use Rattle.emu_top.specs.Causes.{HasCause, IsAnswer, JudgesText, text_limit};
 
+use crate::checking::checked;
 use crate::ended::Ended;
 use crate::run::run;
 use crate::verdict::{Verdict, ended, text};
 use crate::words::request;
 use cilk_ast::{FaultKind, TextFault};
 use emu_io::{ReadRefusal, Sink, Source, read_all, write_all};
-use emu_words::Asked;
+use emu_words::{Asked, Mode};
 use first_path::{Unread, read_script};
 use first_run::program;
 use std::alloc::{AllocError, Global};
@@ -24,9 +27,10 @@ const UNBUILT: TextFault = TextFault {
     kind: FaultKind::Unbuilt,
 };
 
-/// What a text comes to, as a run of it was asked for.
-fn judged(alloc: Global, asked: &Asked, text: &[u8]) -> Result<Verdict, AllocError>
-    requires { 1 ≤ asked.now.turns }
+/// What a text comes to of which a run was asked for.
+fn has_run(alloc: Global, asked: &Asked, text: &[u8]) -> Result<Verdict, AllocError>
+    requires mode { asked.now.mode ≡ Run }
+    requires turns { 1 ≤ asked.now.turns }
     ensures { IfOk result (JudgesText asked.now text.now) }
 {
     match read_script(alloc, text) {
@@ -38,6 +42,20 @@ fn judged(alloc: Global, asked: &Asked, text: &[u8]) -> Result<Verdict, AllocErr
         }
         Err(Unread::Unbuilt) => Ok(Verdict::Refused(UNBUILT)),
         Err(Unread::OutOfMemory) => Err(AllocError),
+    }
+}
+
+/// What a text comes to, as the words ask for it.
+fn judged(alloc: Global, asked: &Asked, text: &[u8]) -> Result<Verdict, AllocError>
+    requires built { is_built_mode asked.now.mode ≡ true }
+    requires turns { 1 ≤ asked.now.turns }
+    requires short { length text.now ≤ text_limit }
+    ensures { IfOk result (JudgesText asked.now text.now) }
+{
+    if asked.mode == Mode::Check {
+        checked(alloc, asked, text)
+    } else {
+        has_run(alloc, asked, text)
     }
 }
 

@@ -20,6 +20,8 @@ pub enum Verdict {
     TooLong,
     /// The text is refused.
     Refused(TextFault),
+    /// The text is a program: its canonical text.
+    Printed(List<u8>),
     /// The text was run.
     HasRun(Ran),
 }
@@ -35,11 +37,11 @@ fn joined(alloc: Global, pieces: &[List<u8>]) -> Result<List<u8>, AllocError>
     Ok(text)
 }
 
-fn lined(alloc: Global, line: &[u8]) -> Result<List<u8>, AllocError>
-    ensures { IfOk result (λ text. text ≡ line.now) }
+fn copied(alloc: Global, bytes: &[u8]) -> Result<List<u8>, AllocError>
+    ensures { IfOk result (λ text. text ≡ bytes.now) }
 {
     let mut text = List::new(alloc);
-    text.extend_from_slice(line)?;
+    text.extend_from_slice(bytes)?;
     Ok(text)
 }
 
@@ -57,10 +59,11 @@ pub(crate) fn text(alloc: Global, verdict: &Verdict) -> Result<List<u8>, AllocEr
     ensures { IfOk result (λ text. text ≡ text_of verdict.now) }
 {
     match verdict {
-        Verdict::BadWords => lined(alloc, b"fault: words\n"),
-        Verdict::Unread => lined(alloc, b"fault: read\n"),
-        Verdict::TooLong => lined(alloc, b"fault: too long\n"),
+        Verdict::BadWords => copied(alloc, b"fault: words\n"),
+        Verdict::Unread => copied(alloc, b"fault: read\n"),
+        Verdict::TooLong => copied(alloc, b"fault: too long\n"),
         Verdict::Refused(text_fault) => fault(alloc, *text_fault),
+        Verdict::Printed(canonical) => copied(alloc, canonical.as_slice()),
         Verdict::HasRun(ran) => run_text(alloc, ran),
     }
 }
@@ -86,6 +89,7 @@ pub(crate) fn ended(verdict: Verdict, whole: bool) -> Ended
         Verdict::Unread => (5, None, None),
         Verdict::TooLong => (1, None, Some(SourceFault::TooLong)),
         Verdict::Refused(text_fault) => (1, None, Some(SourceFault::Text(text_fault))),
+        Verdict::Printed(_) => (0, None, None),
         Verdict::HasRun(ran) => (end_status(ran.end), Some(ran), None),
     };
     let status = if whole { status } else { 6 };
