@@ -1,5 +1,6 @@
 ghost use Rattle.std.specs.Prelude.{◌≡◌, IsTrue};
 ghost use Rattle.threadlet_code.specs.Breaches.{is_sound, all_heights, height_at};
+ghost use Rattle.threadlet_code.specs.Verdict.{IsShort};
 
 use crate::code::Code;
 use word_ops::List;
@@ -10,6 +11,7 @@ pub struct Verified {
     pub code: Code,
     heights: List<List<Option<u32>>>,
     pub ghost sound: { IsTrue (is_sound code) },
+    pub ghost short: { IsShort code },
     ghost labelled: { heights ≡ all_heights code },
 }
 
@@ -17,6 +19,7 @@ impl Verified {
     /// Code that was judged, with its heights.
     pub(crate) fn new(code: Code, heights: List<List<Option<u32>>>) -> Verified
         requires sound { IsTrue (is_sound code) }
+        requires short { IsShort code }
         requires heights { heights ≡ all_heights code }
         ensures { result.code ≡ code }
     {
@@ -27,6 +30,7 @@ impl Verified {
     pub fn code(&self) -> &Code
         ensures code { result.now ≡ self.now.code }
         ensures sound { IsTrue (is_sound result.now) }
+        ensures short { IsShort result.now }
     {
         &self.code
     }

@@ -48,6 +48,11 @@ impl<T> List<T> {
         items
     }
 
+    /// The allocator that the list grows on.
+    pub fn allocator(&self) -> Global {
+        *self.items.allocator()
+    }
+
     /// The items, to be read or walked over.
     pub fn as_slice(&self) -> &[T]
         ensures { result.now ≡ self.now }

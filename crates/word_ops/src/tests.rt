@@ -75,6 +75,7 @@ fn a_list_is_built_changed_and_taken_apart(rt: HostRuntime) -> Result<(), Fail> 
     assert_eq!(rt; list.set(1, 7), 5);
     *list.at_mut(0) = 9;
     assert_eq!(rt; *list.at(0), 9);
+    assert_eq!(rt; List::<u64>::new(list.allocator()).len(), 0);
     assert_eq!(rt; list.pop(), Some(6));
     assert_eq!(rt; list.len(), 2);
     assert_eq!(rt;
