@@ -26,4 +26,6 @@ pub mod StatementRules
 pub mod BodyRules
 pub mod Well
 pub mod Narrow
+pub mod PrintableFormats
 mod HeightExamples
+mod CompiledExamples

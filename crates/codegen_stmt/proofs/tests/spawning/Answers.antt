@@ -1,7 +1,6 @@
 use Rattle.std.proofs.Common.{rules, ◌≡◌, ◌≤◌, ◌^◌, ◌∷◌, [], IfOk, IsTrue, List, pos, true, false, Some, None, arith, refl, sym, subst}
 use Rattle.std.proofs.lemmas.Result.{IfOk-weaker}
 use Rattle.word_ops.specs.declared.place.Pos.{Pos}
-use Rattle.cilk_ast.specs.declared.program.Expr as code
 use Rattle.cilk_ast.specs.declared.program.Expr.{Word, Slot}
 use Rattle.cilk_ast.specs.declared.program.Expr.TheBlock.{shape-the_row-Expr-0, hidden-the_row-Expr-0, shape-the_row-Expr-1, hidden-the_row-Expr-1}
 use Rattle.cilk_ast.specs.declared.program.Stmt as code_stmt

@@ -11,7 +11,7 @@ use Rattle.cilk_ast.specs.declared.program.Stmt.TheBlock.{shape-the_row-Stmt-0, 
 use Rattle.cilk_ast.specs.declared.program.Function.{Function}
 use Rattle.cilk_ast.specs.Kept.{keeps}
 use Rattle.cilk_ast.specs.Nodes.{node_count}
-use Rattle.codegen_stmt.proofs.tests.rounds.Goals as goal
+use Rattle.codegen_stmt.proofs.tests.rounds.rounds.Goals as goal
 use denote.Hole.Carrier.{hidden}
 
 abbrev at : Pos
