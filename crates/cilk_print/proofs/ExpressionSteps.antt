@@ -16,7 +16,7 @@ use Rattle.cilk_model.specs.Signs.{prefix_spelling, binary, infix_spelling, buil
 use Rattle.cilk_model.specs.Grammar.{Row}
 use Rattle.cilk_model.specs.TreeTokens.{nowhere, word, mark, name, prefix, star, expression, arguments, behind_commas, between_commas}
 use Rattle.cilk_model.specs.Layout.{put, put_all}
-use Rattle.cilk_print.specs.Printing.{printed, printed_behind, printed_between, starred, called, addressed}
+use Rattle.cilk_print.specs.Printing.{printed, printed_behind, printed_between, starred, called, addressed, bracketed}
 use Rattle.cilk_print.proofs.FormTokens.{argument_rows}
 use Rattle.cilk_print.proofs.Pages.{put_all_append}
 use denote.Hole.Carrier.{hidden}
@@ -33,10 +33,13 @@ printed_var page at x = refl
 then_one : (page : Page) (a : Row) (t : Lexeme) → put_all page (a ++ t ∷ []) ≡ put (put_all page a) t
 then_one page a t = put_all_append page a (t ∷ [])
 
-pub printed_paren : (page : Page) (at : Pos) (inner : TExpr) →
-    printed page (code.Paren at inner) ≡ put (printed (put page (mark "(")) inner) (mark ")")
-unfolding printed shape-the_row-TExpr-0 hidden-the_row-TExpr-0 hidden
-printed_paren page at inner = then_one (put page (mark "(")) (expression inner) (mark ")")
+pub bracketed_step : (page : Page) (e : TExpr) → bracketed page e ≡ put (printed (put page (mark "(")) e) (mark ")")
+unfolding bracketed printed
+bracketed_step page e = then_one (put page (mark "(")) (expression e) (mark ")")
+
+pub printed_paren : (page : Page) (at : Pos) (inner : TExpr) → printed page (code.Paren at inner) ≡ bracketed page inner
+unfolding printed bracketed shape-the_row-TExpr-0 hidden-the_row-TExpr-0 hidden
+printed_paren page at inner = refl
 
 pub printed_un : (page : Page) (at : Pos) (o : UnaryOp) (inner : TExpr) →
     printed page (code.Un at o inner) ≡ printed (put page (mark (prefix_spelling (prefix o)))) inner

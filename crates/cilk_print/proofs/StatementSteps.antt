@@ -1,5 +1,5 @@
 -- A page with a statement, by its form: the same with its parts, one after the other.
-use Rattle.std.proofs.Common.{◌≡◌, ◌∙◌, ap, sym, ℕ, ◌+◌, ◌<◌, ◌≤◌, List, [], ◌∷◌, ◌++◌, map, length, get_or, drop, flat_map, refl, Option, Some, None}
+use Rattle.std.proofs.Common.{◌≡◌, ◌∙◌, ap, sym, ℕ, ◌+◌, ◌<◌, ◌≤◌, List, [], ◌∷◌, ◌++◌, map, length, get_or, drop, flat_map, refl, codes, Option, Some, None}
 use Rattle.std.proofs.lemmas.List.{at_drop_more, at_drop_all}
 use Rattle.word_ops.specs.declared.place.Pos.{Pos}
 use Rattle.cilk_ast.specs.declared.kind.Kind.{Kind}
@@ -17,14 +17,10 @@ use Rattle.cilk_model.specs.declared.layout.Page.{Page}
 use Rattle.cilk_model.specs.Grammar.{Row}
 use Rattle.cilk_model.specs.TreeTokens.{word, mark, name, expression, between_commas, declared, origin, value, initial, perhaps, head, for_head, cilk_for_head, in_brackets, statement, statements}
 use Rattle.cilk_model.specs.Layout.{put, put_all}
-use Rattle.cilk_print.specs.Printing.{printed, printed_between, starred, bracketed, printed_perhaps, printed_declared, printed_spawn, printed_origin, printed_value, printed_initial, printed_simple, printed_part, printed_for_head, printed_low, printed_high, printed_statement, printed_statements}
+use Rattle.cilk_print.specs.Printing.{printed, printed_between, starred, called, bracketed, printed_perhaps, printed_declared, printed_spawn, printed_origin, printed_value, printed_initial, printed_simple, printed_part, printed_for_head, printed_low, printed_high, printed_cilk_for_head, printed_else, printed_statement, printed_statements}
 use Rattle.cilk_print.proofs.FormTokens.{statement_rows}
 use Rattle.cilk_print.proofs.Pages.{put_all_append}
 use denote.Hole.Carrier.{hidden}
-
-pub bracketed_step : (page : Page) (e : TExpr) → bracketed page e ≡ put (printed (put page (mark "(")) e) (mark ")")
-unfolding bracketed printed
-bracketed_step page e = simp put_all_append
 
 pub no_perhaps : (page : Page) → printed_perhaps page None ≡ page
 unfolding printed_perhaps
@@ -166,12 +162,20 @@ some_part page s = refl
 
 pub ruleset part_steps = (no_part, some_part)
 
+-- tokens in brackets that begin behind what stands there
+in_round : (page : Page) (a : Row) → put_all page (in_brackets a) ≡ put (put_all (put page (mark "(")) a) (mark ")")
+in_round page a = put_all_append (put page (mark "(")) a (mark ")" ∷ [])
+
 pub for_head_step : (page : Page) (init : Option TStmt) (test : Option TExpr) (step : Option TStmt) →
-    printed_for_head page init test step ≡ printed_part (put (printed_perhaps (put (printed_part page init) (mark ";")) test) (mark ";")) step
-unfolding printed_for_head printed_part printed_perhaps
+    printed_for_head page init test step
+    ≡ put (printed_part (put (printed_perhaps (put (printed_part (called page (codes "for")) init) (mark ";")) test) (mark ";")) step) (mark ")")
+unfolding printed_for_head printed_part printed_perhaps called
 for_head_step page init test step =
-    put_all_append page (head (part_of init)) (mark ";" ∷ (perhaps test ++ (mark ";" ∷ head (part_of step))))
-    ∙ put_all_append (put (put_all page (head (part_of init))) (mark ";")) (perhaps test) (mark ";" ∷ head (part_of step))
+    let opened = put (put page (word "for")) (mark "(") in
+    in_round (put page (word "for")) (for_head (part_of init) test (part_of step))
+    ∙ ap (λ p. put p (mark ")"))
+    (put_all_append opened (head (part_of init)) (mark ";" ∷ (perhaps test ++ (mark ";" ∷ head (part_of step))))
+    ∙ put_all_append (put (put_all opened (head (part_of init))) (mark ";")) (perhaps test) (mark ";" ∷ head (part_of step)))
 
 pub low_step : (page : Page) (i : List ℕ) (low : TExpr) →
     printed_low page i low ≡ put (printed (put (printed_declared page kind.Long i) (mark "=")) low) (mark ";")
@@ -185,22 +189,24 @@ pub high_step : (page : Page) (j : List ℕ) (high : TExpr) →
 unfolding printed_high printed
 high_step page j high = put_all_append (put (put page (name j)) (mark "<")) (expression high) (mark ";" ∷ [])
 
+pub cilk_for_head_step : (page : Page) (i : List ℕ) (low : TExpr) (j : List ℕ) (high : TExpr) (k : List ℕ) →
+    printed_cilk_for_head page i low j high k
+    ≡ put (put (put (printed_high (printed_low (called page (codes "cilk_for")) i low) j high) (name k)) (mark "++")) (mark ")")
+unfolding printed_cilk_for_head printed_low printed_high called
+cilk_for_head_step page i low j high k =
+    in_round (put page (word "cilk_for")) (cilk_for_head i low j high k) ∙ ap (λ p. put p (mark ")")) (simp put_all_append)
+
 pub block_step : (page : Page) (body : List TStmt) → printed_statement page (code.Block body) ≡ put (printed_statements (put page (mark "{")) body) (mark "}")
 unfolding printed_statement printed_statements
 block_step page body =
     put_all_append (put page (mark "{")) (statements (hidden-the_row-TStmt-0 body)) (mark "}" ∷ [])
     ∙ ap (λ a. put (put_all (put page (mark "{")) a) (mark "}")) (statement_rows body)
 
-pub if_step : (page : Page) (test : TExpr) (yes_ : TStmt) →
-    printed_statement page (code.If test yes_ None) ≡ printed_statement (bracketed (put page (word "if")) test) yes_
+pub if_step : (page : Page) (test : TExpr) (yes_ : TStmt) (no_ : Option TStmt) →
+    printed_statement page (code.If test yes_ no_) ≡ printed_else (printed_statement (bracketed (put page (word "if")) test) yes_) no_
 unfolding printed_statement bracketed shape-the_row-TStmt-1 hidden-the_row-TStmt-1 hidden
-if_step page test yes_ = put_all_append (put page (word "if")) (in_brackets (expression test)) (statement yes_)
-
-pub if_else_step : (page : Page) (test : TExpr) (yes_ no_ : TStmt) →
-    printed_statement page (code.If test yes_ (Some no_))
-    ≡ printed_statement (put (printed_statement (bracketed (put page (word "if")) test) yes_) (word "else")) no_
-unfolding printed_statement bracketed shape-the_row-TStmt-1 hidden-the_row-TStmt-1 hidden
-if_else_step page test yes_ no_ =
+if_step page test yes_ None = put_all_append (put page (word "if")) (in_brackets (expression test)) (statement yes_)
+if_step page test yes_ (Some no_) =
     put_all_append (put page (word "if")) (in_brackets (expression test)) (statement yes_ ++ (word "else" ∷ statement no_))
     ∙ put_all_append (put_all (put page (word "if")) (in_brackets (expression test))) (statement yes_) (word "else" ∷ statement no_)
 
@@ -209,31 +215,20 @@ pub while_step : (page : Page) (test : TExpr) (body : TStmt) →
 unfolding printed_statement bracketed shape-the_row-TStmt-1 hidden-the_row-TStmt-1 hidden
 while_step page test body = put_all_append (put page (word "while")) (in_brackets (expression test)) (statement body)
 
--- tokens in brackets, and a statement behind them
-behind_brackets : (page : Page) (a : Row) (body : TStmt) →
-    put_all page (in_brackets a ++ statement body) ≡ put_all (put (put_all (put page (mark "(")) a) (mark ")")) (statement body)
-behind_brackets page a body =
-    put_all_append page (in_brackets a) (statement body)
-    ∙ ap (λ p. put_all p (statement body)) (put_all_append (put page (mark "(")) a (mark ")" ∷ []))
-
 pub for_step : (page : Page) (init : Option TStmt) (test : Option TExpr) (step : Option TStmt) (body : TStmt) →
-    printed_statement page (code.For init test step body)
-    ≡ printed_statement (put (printed_for_head (put (put page (word "for")) (mark "(")) init test step) (mark ")")) body
+    printed_statement page (code.For init test step body) ≡ printed_statement (printed_for_head page init test step) body
 unfolding printed_statement printed_for_head
 for_step page init test step body =
     ap (λ s. put_all page (statement s)) (for_form init test step body)
-    ∙ behind_brackets (put page (word "for")) (for_head (part_of init) test (part_of step)) body
+    ∙ put_all_append (put page (word "for")) (in_brackets (for_head (part_of init) test (part_of step))) (statement body)
 
 pub cilk_for_step : (page : Page) (at : Pos) (i : List ℕ) (low : TExpr) (second : Pos × List ℕ) (high : TExpr) (third : Pos × List ℕ) (body : TStmt) →
-    printed_statement page (code.CilkFor at i low second high third body)
-    ≡ printed_statement (put (put (put (printed_high (printed_low (put (put page (word "cilk_for")) (mark "(")) i low) second.1 high) (name third.1)) (mark "++")) (mark ")")) body
-unfolding printed_statement printed_low printed_high shape-the_row-TStmt-1 hidden-the_row-TStmt-1 hidden
+    printed_statement page (code.CilkFor at i low second high third body) ≡ printed_statement (printed_cilk_for_head page i low second.1 high third.1) body
+unfolding printed_statement printed_cilk_for_head shape-the_row-TStmt-1 hidden-the_row-TStmt-1 hidden
 cilk_for_step page at i low second high third body =
-    let opened = put (put page (word "cilk_for")) (mark "(") in
-    behind_brackets (put page (word "cilk_for")) (cilk_for_head i low second.1 high third.1) body
-    ∙ ap (λ p. put_all (put p (mark ")")) (statement body)) (simp put_all_append)
+    put_all_append (put page (word "cilk_for")) (in_brackets (cilk_for_head i low second.1 high third.1)) (statement body)
 
-pub ruleset statement_steps = (block_step, if_step, if_else_step, while_step, for_step, cilk_for_step)
+pub ruleset statement_steps = (block_step, if_step, while_step, for_step, cilk_for_step)
 
 -- ---- The statements of a block
 

@@ -1,5 +1,5 @@
 -- A page with more on it.
-use Rattle.std.specs.Prelude.{ℕ, List, [], ◌∷◌, map, flat_map, ◌++◌, Option, Bool, true, false, not, ◌&&◌, ◌||◌}
+use Rattle.std.specs.Prelude.{ℕ, List, [], ◌∷◌, map, flat_map, ◌++◌, Option, Some, None, Bool, true, false, not, ◌&&◌, ◌||◌}
 use Rattle.cilk_model.specs.declared.layout.Page.{Page}
 use Rattle.cilk_model.specs.Lexemes as lexeme
 use Rattle.cilk_model.specs.Lexemes.{Lexeme, mark}
@@ -15,7 +15,7 @@ use Rattle.cilk_ast.specs.declared.tree.TValue.{TValue}
 use Rattle.cilk_ast.specs.declared.tree.Param.{Param}
 use Rattle.cilk_ast.specs.declared.tree.Item.{Item}
 use Rattle.cilk_model.specs.Grammar.{Row}
-use Rattle.cilk_model.specs.TreeTokens.{nowhere, name, word, star, expression, behind_commas, between_commas, in_brackets, perhaps, declared, spawn, origin, value, initial, simple, head, for_head, statement, result, parameter, replicated_word, item, mark as marked}
+use Rattle.cilk_model.specs.TreeTokens.{nowhere, name, word, star, expression, behind_commas, between_commas, in_brackets, perhaps, declared, spawn, origin, value, initial, simple, head, for_head, cilk_for_head, statement, result, parameter, replicated_word, item, mark as marked}
 use Rattle.cilk_model.specs.Layout.{lead, is_tight, put, put_all}
 
 -- Marks that open or close nothing, end no line, and have a blank before and behind them.
@@ -101,7 +101,7 @@ printed_value page v = put_all page (value v)
 unfoldable pub printed_initial : Page → Option TValue → Page
 printed_initial page v = put_all page (initial v)
 
--- A page with a statement without its `;`, and with a part of the head of a `for`.
+-- A page with a statement without its `;`, with a part of the head of a `for`, and with that head.
 unfoldable pub printed_simple : Page → TStmt → Page
 printed_simple page s = put_all page (simple s)
 
@@ -109,7 +109,7 @@ unfoldable pub printed_part : Page → Option TStmt → Page
 printed_part page part = put_all page (head (part_of part))
 
 unfoldable pub printed_for_head : Page → Option TStmt → Option TExpr → Option TStmt → Page
-printed_for_head page init test step = put_all page (for_head (part_of init) test (part_of step))
+printed_for_head page init test step = put_all page (word "for" ∷ in_brackets (for_head (part_of init) test (part_of step)))
 
 -- A page with the bounds of a `cilk_for`, of which the first declares its variable.
 unfoldable pub printed_low : Page → List ℕ → TExpr → Page
@@ -118,8 +118,17 @@ printed_low page i low = put_all page (declared kind.Long i ++ (marked "=" ∷ (
 unfoldable pub printed_high : Page → List ℕ → TExpr → Page
 printed_high page j high = put_all page (name j ∷ marked "<" ∷ (expression high ++ marked ";" ∷ []))
 
+-- A page with the head of a `cilk_for` of a variable, whose name the test and the step have too.
+unfoldable pub printed_cilk_for_head : Page → List ℕ → TExpr → List ℕ → TExpr → List ℕ → Page
+printed_cilk_for_head page i low j high k = put_all page (word "cilk_for" ∷ in_brackets (cilk_for_head i low j high k))
+
 unfoldable pub printed_statement : Page → TStmt → Page
 printed_statement page s = put_all page (statement s)
+
+-- A page with the `else` of an `if`, where there is one.
+abbrev pub printed_else : Page → Option TStmt → Page
+printed_else page None = page
+printed_else page (Some s) = printed_statement (put page (word "else")) s
 
 unfoldable pub printed_statements : Page → List TStmt → Page
 printed_statements page body = put_all page (flat_map statement body)

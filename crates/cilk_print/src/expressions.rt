@@ -1,7 +1,10 @@
 //! Expressions on a page.
 
-ghost use Rattle.std.specs.Prelude.{◌≡◌, ◌≤◌, length, drop, OnOk};
-ghost use Rattle.cilk_print.specs.Printing.{printed, printed_behind, printed_between, starred, called, addressed, is_indexed};
+ghost use Rattle.std.specs.Prelude.{◌≡◌, ◌≤◌, codes, length, drop, IsTrue, OnOk};
+ghost use Rattle.cilk_model.specs.Layout.{put};
+ghost use Rattle.cilk_model.specs.Lexemes as lexeme;
+ghost use Rattle.cilk_model.specs.TreeTokens.{nowhere, mark, name as name_of, word as word_of};
+ghost use Rattle.cilk_print.specs.Printing.{printed, printed_behind, printed_between, starred, called, addressed, bracketed as bracketed_on, is_indexed, is_plain};
 
 use crate::page::{
     close_round, literal, open_round, open_square, operator, plain, text, tight, word,
@@ -42,6 +45,69 @@ fn address_of(page: &mut Page, name: &[u8]) -> Result<(), AllocError>
     tight(page, ",")
 }
 
+/// A cast, up to what it is of.
+fn cast(page: &mut Page, kind: Kind) -> Result<(), AllocError>
+    ensures { OnOk result (page.new ≡ put (starred (put (put page.old (mark "(")) (word_of "long")) kind) (mark ")")) }
+{
+    open_round(page)?;
+    word(page, "long")?;
+    star(page, kind)?;
+    close_round(page)
+}
+
+#[tactic(auto, using(crate::proofs::ExpressionSteps::bracketed_step))]
+/// An expression in its brackets.
+#[cycle(expressions)]
+pub fn bracketed(alloc: Global, page: &mut Page, e: &TExpr) -> Result<(), AllocError>
+    ensures { OnOk result (page.new ≡ bracketed_on page.old e.now) }
+{
+    open_round(page)?;
+    expression(alloc, page, e)?;
+    close_round(page)
+}
+
+/// An expression in the brackets of an index.
+#[cycle(expressions)]
+fn in_square(alloc: Global, page: &mut Page, e: &TExpr) -> Result<(), AllocError>
+    ensures { OnOk result (page.new ≡ put (printed (put page.old (mark "[")) e.now) (mark "]")) }
+{
+    open_square(page)?;
+    expression(alloc, page, e)?;
+    tight(page, "]")
+}
+
+/// An operator, and the expression behind it.
+#[cycle(expressions)]
+pub fn operand(alloc: Global, page: &mut Page, spelling: &str, e: &TExpr) -> Result<(), AllocError>
+    requires { IsTrue (is_plain spelling.now) }
+    ensures { OnOk result (page.new ≡ printed (put page.old (lexeme.mark nowhere spelling.now)) e.now) }
+{
+    operator(page, spelling)?;
+    expression(alloc, page, e)
+}
+
+/// A name that is called, and its arguments.
+#[cycle(expressions)]
+pub fn call(alloc: Global, page: &mut Page, name: &[u8], args: &[TExpr]) -> Result<(), AllocError>
+    ensures { OnOk result (page.new ≡ put (printed_between (put (put page.old (name_of name.now)) (mark "(")) args.now) (mark ")")) }
+{
+    plain(page, name)?;
+    open_round(page)?;
+    between_commas(alloc, page, args)?;
+    close_round(page)
+}
+
+/// `printf` of a format, and its words.
+#[cycle(expressions)]
+fn print(alloc: Global, page: &mut Page, format: &[u8], args: &[TExpr]) -> Result<(), AllocError>
+    ensures { OnOk result (page.new ≡ put (printed_behind (put (called page.old (codes "printf")) (lexeme.text nowhere format.now)) args.now) (mark ")")) }
+{
+    call_of(page, "printf")?;
+    text(page, format)?;
+    behind_commas(alloc, page, args, 0)?;
+    close_round(page)
+}
+
 #[tactic(auto, using(crate::proofs::ExpressionSteps::expression_steps))]
 /// An expression, by its form.
 #[cycle(expressions)]
@@ -49,102 +115,46 @@ fn form(alloc: Global, page: &mut Page, e: &TExpr) -> Result<(), AllocError>
     ensures { OnOk result (page.new ≡ printed page.old e.now) }
 {
     match e {
-        TExpr::Number { pos: _, value } => literal(page, *value),
-        TExpr::Var { pos: _, name } => plain(page, name.as_slice()),
-        TExpr::Paren { pos: _, inner } => {
-            open_round(page)?;
-            expression(alloc, page, inner.get())?;
-            close_round(page)
-        }
-        TExpr::Un { pos: _, op, inner } => {
-            operator(page, prefix(*op))?;
+        TExpr::Number { value, .. } => literal(page, *value),
+        TExpr::Var { name, .. } => plain(page, name.as_slice()),
+        TExpr::Paren { inner, .. } => bracketed(alloc, page, inner.get()),
+        TExpr::Un { op, inner, .. } => operand(alloc, page, prefix(*op), inner.get()),
+        TExpr::Deref { inner, .. } => operand(alloc, page, "*", inner.get()),
+        TExpr::Cast { kind, inner, .. } => {
+            cast(page, *kind)?;
             expression(alloc, page, inner.get())
         }
-        TExpr::Deref { pos: _, inner } => {
-            operator(page, "*")?;
-            expression(alloc, page, inner.get())
-        }
-        TExpr::Cast {
-            pos: _,
-            kind,
-            inner,
-        } => {
-            open_round(page)?;
-            word(page, "long")?;
-            star(page, *kind)?;
-            close_round(page)?;
-            expression(alloc, page, inner.get())
-        }
-        TExpr::Index {
-            pos: _,
-            base,
-            index,
-        } => {
+        TExpr::Index { base, index, .. } => {
             expression(alloc, page, base.get())?;
-            open_square(page)?;
-            expression(alloc, page, index.get())?;
-            tight(page, "]")
+            in_square(alloc, page, index.get())
         }
         TExpr::Bin {
-            pos: _,
             op,
             left,
             right,
+            ..
         } => {
             expression(alloc, page, left.get())?;
-            operator(page, infix(*op))?;
-            expression(alloc, page, right.get())
+            operand(alloc, page, infix(*op), right.get())
         }
-        TExpr::Both {
-            pos: _,
-            left,
-            right,
-        } => {
+        TExpr::Both { left, right, .. } => {
             expression(alloc, page, left.get())?;
-            operator(page, "&&")?;
-            expression(alloc, page, right.get())
+            operand(alloc, page, "&&", right.get())
         }
-        TExpr::Either {
-            pos: _,
-            left,
-            right,
-        } => {
+        TExpr::Either { left, right, .. } => {
             expression(alloc, page, left.get())?;
-            operator(page, "||")?;
-            expression(alloc, page, right.get())
+            operand(alloc, page, "||", right.get())
         }
-        TExpr::Call { pos: _, name, args } => {
-            plain(page, name.as_slice())?;
-            open_round(page)?;
-            between_commas(alloc, page, args.as_slice())?;
-            close_round(page)
-        }
-        TExpr::Builtin {
-            pos: _,
-            which,
-            args,
-        } => {
+        TExpr::Call { name, args, .. } => call(alloc, page, name.as_slice(), args.as_slice()),
+        TExpr::Builtin { which, args, .. } => {
             call_of(page, builtin(*which))?;
             between_commas(alloc, page, args.as_slice())?;
             close_round(page)
         }
-        TExpr::Print {
-            pos: _,
-            text_pos: _,
-            format,
-            args,
-        } => {
-            call_of(page, "printf")?;
-            text(page, format.as_slice())?;
-            behind_commas(alloc, page, args.as_slice(), 0)?;
-            close_round(page)
+        TExpr::Print { format, args, .. } => {
+            print(alloc, page, format.as_slice(), args.as_slice())
         }
-        TExpr::InitAt {
-            pos: _,
-            name_pos: _,
-            name,
-            value,
-        } => {
+        TExpr::InitAt { name, value, .. } => {
             address_of(page, name.as_slice())?;
             expression(alloc, page, value.get())?;
             close_round(page)
@@ -186,11 +196,7 @@ fn is_index(e: &TExpr) -> bool
     ensures { result ≡ is_indexed e.now }
 {
     match e {
-        TExpr::Index {
-            pos: _,
-            base: _,
-            index: _,
-        } => true,
+        TExpr::Index { .. } => true,
         _ => false,
     }
 }
@@ -216,9 +222,7 @@ pub fn expression(alloc: Global, page: &mut Page, e: &TExpr) -> Result<(), Alloc
     }
     form(alloc, page, rest)?;
     while let Some(index) = indexes.pop() {
-        open_square(page)?;
-        expression(alloc, page, index)?;
-        tight(page, "]")?;
+        in_square(alloc, page, index)?;
     }
     Ok(())
 }

@@ -1,23 +1,13 @@
 //! Statements without parts that are statements.
 
 ghost use Rattle.std.specs.Prelude.{◌≡◌, OnOk};
-ghost use Rattle.cilk_print.specs.Printing.{bracketed as bracketed_on, printed_perhaps, printed_declared, printed_spawn, printed_origin, printed_value, printed_initial, printed_simple};
+ghost use Rattle.cilk_print.specs.Printing.{printed_perhaps, printed_declared, printed_spawn, printed_origin, printed_value, printed_initial, printed_simple};
 
-use crate::expressions::{between_commas, expression, star};
-use crate::page::{close_round, open_round, operator, plain, tight, word};
+use crate::expressions::{bracketed, call, expression, operand, star};
+use crate::page::{operator, plain, tight, word};
 use cilk_ast::{Kind, TExpr, TSpawn, TStmt, TValue};
 use cilk_model::Page;
 use std::alloc::{AllocError, Global};
-
-#[tactic(auto, using(crate::proofs::StatementSteps::bracketed_step))]
-/// An expression in its brackets.
-pub fn bracketed(alloc: Global, page: &mut Page, e: &TExpr) -> Result<(), AllocError>
-    ensures { OnOk result (page.new ≡ bracketed_on page.old e.now) }
-{
-    open_round(page)?;
-    expression(alloc, page, e)?;
-    close_round(page)
-}
 
 #[tactic(auto, using(crate::proofs::StatementSteps::perhaps_steps))]
 /// An expression, where there is one.
@@ -59,15 +49,12 @@ fn spawn(alloc: Global, page: &mut Page, spawn: &TSpawn) -> Result<(), AllocErro
     ensures { OnOk result (page.new ≡ printed_spawn page.old spawn.now) }
 {
     origin(alloc, page, &spawn.hint)?;
-    plain(page, spawn.name.as_slice())?;
-    open_round(page)?;
-    between_commas(alloc, page, spawn.args.as_slice())?;
-    close_round(page)
+    call(alloc, page, spawn.name.as_slice(), spawn.args.as_slice())
 }
 
 #[tactic(auto, using(crate::proofs::StatementSteps::value_steps))]
 /// What stands behind a `=`.
-fn value(alloc: Global, page: &mut Page, value: &TValue) -> Result<(), AllocError>
+fn right_side(alloc: Global, page: &mut Page, value: &TValue) -> Result<(), AllocError>
     ensures { OnOk result (page.new ≡ printed_value page.old value.now) }
 {
     match value {
@@ -85,7 +72,7 @@ fn initial(alloc: Global, page: &mut Page, first: &Option<TValue>) -> Result<(),
         None => Ok(()),
         Some(first) => {
             operator(page, "=")?;
-            value(alloc, page, first)
+            right_side(alloc, page, first)
         }
     }
 }
@@ -97,32 +84,23 @@ pub fn simple(alloc: Global, page: &mut Page, s: &TStmt) -> Result<(), AllocErro
 {
     match s {
         TStmt::Local {
-            pos: _,
             kind,
             name,
-            value: first,
+            value,
+            ..
         } => {
             declared(page, *kind, name.as_slice())?;
-            initial(alloc, page, first)
+            initial(alloc, page, value)
         }
         TStmt::Eval(e) => expression(alloc, page, e),
-        TStmt::Assign {
-            pos: _,
-            left,
-            value: right,
-        } => {
+        TStmt::Assign { left, value, .. } => {
             expression(alloc, page, left)?;
             operator(page, "=")?;
-            value(alloc, page, right)
+            right_side(alloc, page, value)
         }
-        TStmt::AddTo {
-            pos: _,
-            left,
-            value: right,
-        } => {
+        TStmt::AddTo { left, value, .. } => {
             expression(alloc, page, left)?;
-            operator(page, "+=")?;
-            expression(alloc, page, right)
+            operand(alloc, page, "+=", value)
         }
         TStmt::Up { left } => {
             expression(alloc, page, left)?;
@@ -133,35 +111,18 @@ pub fn simple(alloc: Global, page: &mut Page, s: &TStmt) -> Result<(), AllocErro
             tight(page, "--")
         }
         TStmt::Spawn(s) => spawn(alloc, page, s),
-        TStmt::Break { pos: _ } => word(page, "break"),
-        TStmt::Continue { pos: _ } => word(page, "continue"),
-        TStmt::Return { pos: _, value: e } => {
+        TStmt::Break { .. } => word(page, "break"),
+        TStmt::Continue { .. } => word(page, "continue"),
+        TStmt::Return { value, .. } => {
             word(page, "return")?;
-            perhaps(alloc, page, e)
+            perhaps(alloc, page, value)
         }
         TStmt::Sync => word(page, "cilk_sync"),
         TStmt::Empty => Ok(()),
         TStmt::Block(_) => Ok(()),
-        TStmt::If {
-            test: _,
-            yes: _,
-            no: _,
-        } => Ok(()),
-        TStmt::While { test: _, body: _ } => Ok(()),
-        TStmt::For {
-            init: _,
-            test: _,
-            step: _,
-            body: _,
-        } => Ok(()),
-        TStmt::CilkFor {
-            pos: _,
-            name: _,
-            low: _,
-            second: _,
-            high: _,
-            third: _,
-            body: _,
-        } => Ok(()),
+        TStmt::If { .. } => Ok(()),
+        TStmt::While { .. } => Ok(()),
+        TStmt::For { .. } => Ok(()),
+        TStmt::CilkFor { .. } => Ok(()),
     }
 }

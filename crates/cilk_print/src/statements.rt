@@ -1,17 +1,15 @@
 //! Statements on a page.
 
 ghost use Rattle.std.specs.Prelude.{◌≡◌, OnOk};
-ghost use Rattle.cilk_print.specs.Printing.{printed_part, printed_for_head, printed_low, printed_high, printed_statement, printed_statements};
+ghost use Rattle.cilk_print.specs.Printing.{printed_part, printed_for_head, printed_low, printed_high, printed_cilk_for_head, printed_else, printed_statement, printed_statements};
 
-use crate::expressions::expression;
-use crate::page::{
-    close_brace, close_round, open_brace, open_round, operator, plain, semicolon, tight, word,
-};
-use crate::simple::{bracketed, declared, perhaps, simple};
+use crate::expressions::{bracketed, call_of, expression};
+use crate::page::{close_brace, close_round, open_brace, operator, plain, semicolon, tight, word};
+use crate::simple::{declared, perhaps, simple};
 use cilk_ast::{Kind, TExpr, TStmt};
 use cilk_model::Page;
 use std::alloc::{AllocError, Global};
-use word_ops::{Box, List};
+use word_ops::{Box, List, Pos};
 
 #[tactic(auto, using(crate::proofs::StatementSteps::part_steps))]
 /// The init or the step of a `for`, where there is one.
@@ -25,7 +23,7 @@ fn part(alloc: Global, page: &mut Page, part: &Option<Box<TStmt>>) -> Result<(),
 }
 
 #[tactic(auto, using(crate::proofs::StatementSteps::for_head_step))]
-/// What stands between the brackets of a `for`.
+/// `for`, and what stands between its brackets.
 fn for_head(
     alloc: Global,
     page: &mut Page,
@@ -35,11 +33,13 @@ fn for_head(
 ) -> Result<(), AllocError>
     ensures { OnOk result (page.new ≡ printed_for_head page.old init.now test.now step.now) }
 {
+    call_of(page, "for")?;
     part(alloc, page, init)?;
     semicolon(page)?;
     perhaps(alloc, page, test)?;
     semicolon(page)?;
-    part(alloc, page, step)
+    part(alloc, page, step)?;
+    close_round(page)
 }
 
 #[tactic(auto, using(crate::proofs::StatementSteps::low_step))]
@@ -64,6 +64,41 @@ fn high_bound(alloc: Global, page: &mut Page, name: &[u8], high: &TExpr) -> Resu
     semicolon(page)
 }
 
+#[tactic(auto, using(crate::proofs::StatementSteps::cilk_for_head_step))]
+/// `cilk_for`, and what stands between its brackets.
+fn cilk_for_head(
+    alloc: Global,
+    page: &mut Page,
+    name: &[u8],
+    low: &TExpr,
+    second: &(Pos, List<u8>),
+    high: &TExpr,
+    third: &(Pos, List<u8>),
+) -> Result<(), AllocError>
+    ensures { OnOk result (page.new ≡ printed_cilk_for_head page.old name.now low.now second.now.1 high.now third.now.1) }
+{
+    call_of(page, "cilk_for")?;
+    low_bound(alloc, page, name, low)?;
+    high_bound(alloc, page, second.1.as_slice(), high)?;
+    plain(page, third.1.as_slice())?;
+    tight(page, "++")?;
+    close_round(page)
+}
+
+/// The `else` of an `if`, where there is one.
+#[cycle(statements)]
+fn otherwise(alloc: Global, page: &mut Page, no: &Option<Box<TStmt>>) -> Result<(), AllocError>
+    ensures { OnOk result (page.new ≡ printed_else page.old no.now) }
+{
+    match no {
+        None => Ok(()),
+        Some(no) => {
+            word(page, "else")?;
+            statement(alloc, page, no.get())
+        }
+    }
+}
+
 /// A statement.
 #[cycle(statements)]
 #[tactic(auto, using(crate::proofs::StatementSteps::statement_steps))]
@@ -80,13 +115,7 @@ pub fn statement(alloc: Global, page: &mut Page, s: &TStmt) -> Result<(), AllocE
             word(page, "if")?;
             bracketed(alloc, page, test)?;
             statement(alloc, page, yes.get())?;
-            match no {
-                None => Ok(()),
-                Some(no) => {
-                    word(page, "else")?;
-                    statement(alloc, page, no.get())
-                }
-            }
+            otherwise(alloc, page, no)
         }
         TStmt::While { test, body } => {
             word(page, "while")?;
@@ -99,28 +128,19 @@ pub fn statement(alloc: Global, page: &mut Page, s: &TStmt) -> Result<(), AllocE
             step,
             body,
         } => {
-            word(page, "for")?;
-            open_round(page)?;
             for_head(alloc, page, init, test, step)?;
-            close_round(page)?;
             statement(alloc, page, body.get())
         }
         TStmt::CilkFor {
-            pos: _,
             name,
             low,
             second,
             high,
             third,
             body,
+            ..
         } => {
-            word(page, "cilk_for")?;
-            open_round(page)?;
-            low_bound(alloc, page, name.as_slice(), low)?;
-            high_bound(alloc, page, second.1.as_slice(), high)?;
-            plain(page, third.1.as_slice())?;
-            tight(page, "++")?;
-            close_round(page)?;
+            cilk_for_head(alloc, page, name.as_slice(), low, second, high, third)?;
             statement(alloc, page, body.get())
         }
         other => {

@@ -53,6 +53,7 @@ pub mod FramesCopies
 pub mod MakingValues
 pub mod SpawningForms
 pub mod WholeForms
+pub mod Fronts
 pub mod WholeItems
 pub mod SpelledForms
 pub mod SpelledMarks

@@ -14,8 +14,8 @@ use crate::judgement::{Arguments, Judgement, Want};
 use crate::kinds::{counted, given, wanted};
 use crate::lookup::meaning;
 use crate::rules::{
-    broken_if, fit_where, index as indexed, init, is_replicated, kind_if, logic, one_part,
-    operator, variable, with_argument,
+    bracketed, broken_if, fit_where, index as indexed, init, is_replicated, kind_if, literal,
+    logic, one_part, operator, variable, with_argument,
 };
 use crate::scopes::{Meaning, Scopes};
 use cilk_ast::{FaultKind, Kind, TExpr, TextFault};
@@ -38,58 +38,32 @@ fn form(scopes: &Scopes<'_, '_>, e: &TExpr) -> Judgement
     ensures { result ≡ judgement (names_of scopes.now) e.now }
 {
     match e {
-        TExpr::Number { pos, value } => Judgement {
-            at: *pos,
-            is_literal_0: *value == 0,
-            kind: Some(Kind::Long),
-            fault: None,
-        },
+        TExpr::Number { pos, value } => literal(*pos, *value),
         TExpr::Var { pos, name } => variable(*pos, meaning(scopes, name.as_slice())),
-        TExpr::Paren { pos, inner } => {
-            let part = judge(scopes, inner.get());
-            Judgement {
-                at: *pos,
-                is_literal_0: part.is_literal_0,
-                kind: part.kind,
-                fault: part.fault,
-            }
-        }
+        TExpr::Paren { pos, inner } => bracketed(*pos, judge(scopes, inner.get())),
         TExpr::Un { pos, op, inner } => {
             one_part(*pos, operand(*op), Kind::Long, judge(scopes, inner.get()))
         }
         TExpr::Deref { pos, inner } => {
-            one_part(
-                *pos,
-                Want::Kind(Kind::Ptr),
-                Kind::Long,
-                judge(scopes, inner.get()),
-            )
+            let part = judge(scopes, inner.get());
+            one_part(*pos, Want::Kind(Kind::Ptr), Kind::Long, part)
         }
         TExpr::Cast { pos, kind, inner } => {
             one_part(*pos, Want::Value, *kind, judge(scopes, inner.get()))
         }
-        TExpr::Index {
-            pos: _,
-            base,
-            index,
-        } => { indexed(judge(scopes, base.get()), judge(scopes, index.get())) }
+        TExpr::Index { base, index, .. } => {
+            indexed(judge(scopes, base.get()), judge(scopes, index.get()))
+        }
         TExpr::Bin {
             pos,
             op,
             left,
             right,
         } => {
-            operator(
-                *pos,
-                *op,
-                judge(scopes, left.get()),
-                judge(scopes, right.get()),
-            )
+            let first = judge(scopes, left.get());
+            operator(*pos, *op, first, judge(scopes, right.get()))
         }
-        TExpr::Both { pos, left, right } => {
-            logic(*pos, judge(scopes, left.get()), judge(scopes, right.get()))
-        }
-        TExpr::Either { pos, left, right } => {
+        TExpr::Both { pos, left, right } | TExpr::Either { pos, left, right } => {
             logic(*pos, judge(scopes, left.get()), judge(scopes, right.get()))
         }
         TExpr::InitAt {
@@ -111,13 +85,8 @@ fn form(scopes: &Scopes<'_, '_>, e: &TExpr) -> Judgement
             format,
             args,
         } => {
-            print(
-                scopes,
-                *pos,
-                *text_pos,
-                words_of(format.as_slice()),
-                args.as_slice(),
-            )
+            let words = words_of(format.as_slice());
+            print(scopes, *pos, *text_pos, words, args.as_slice())
         }
     }
 }
@@ -128,11 +97,7 @@ fn is_index_of_index(e: &TExpr) -> bool
     ensures { result ≡ is_double e.now }
 {
     match e {
-        TExpr::Index {
-            pos: _,
-            base,
-            index: _,
-        } => is_index(base.get()),
+        TExpr::Index { base, .. } => is_index(base.get()),
         _ => false,
     }
 }
@@ -142,11 +107,7 @@ fn is_index(e: &TExpr) -> bool
     ensures { result ≡ is_single e.now }
 {
     match e {
-        TExpr::Index {
-            pos: _,
-            base: _,
-            index: _,
-        } => true,
+        TExpr::Index { .. } => true,
         _ => false,
     }
 }

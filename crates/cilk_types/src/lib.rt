@@ -13,6 +13,7 @@ mod kinds;
 mod locals;
 mod lookup;
 mod lower_bodies;
+mod lower_builtins;
 mod lower_expressions;
 mod lower_functions;
 mod lower_items;
@@ -34,5 +35,7 @@ mod walk;
 pub use file::tree_fault;
 pub use programs::check;
 
+#[cfg(test)]
+mod program_tests;
 #[cfg(test)]
 mod tests;

@@ -15,59 +15,32 @@ pub fn add_places(places: &mut List<Pos>, s: &TStmt) -> Result<(), AllocError>
 {
     match s {
         TStmt::Block(body) => add_all_places(places, body.as_slice()),
-        TStmt::Local {
-            pos,
-            kind: _,
-            name: _,
-            value: _,
-        } => places.add(*pos),
-        TStmt::If { test: _, yes, no } => {
+        TStmt::Local { pos, .. } => places.add(*pos),
+        TStmt::If { yes, no, .. } => {
             add_places(places, yes.get())?;
             add_places_of_part(places, no)
         }
-        TStmt::While { test: _, body } => add_places(places, body.get()),
+        TStmt::While { body, .. } => add_places(places, body.get()),
         TStmt::For {
             init,
-            test: _,
             step,
             body,
+            ..
         } => {
             add_places_of_part(places, init)?;
             add_places_of_part(places, step)?;
             add_places(places, body.get())?;
             Ok(())
         }
-        TStmt::CilkFor {
-            pos,
-            name: _,
-            low: _,
-            second: _,
-            high: _,
-            third: _,
-            body,
-        } => {
+        TStmt::CilkFor { pos, body, .. } => {
             places.add(*pos)?;
             add_places(places, body.get())
         }
-        TStmt::Empty => Ok(()),
-        TStmt::Eval(_) => Ok(()),
-        TStmt::Assign {
-            pos: _,
-            left: _,
-            value: _,
-        } => Ok(()),
-        TStmt::AddTo {
-            pos: _,
-            left: _,
-            value: _,
-        } => Ok(()),
-        TStmt::Up { left: _ } => Ok(()),
-        TStmt::Down { left: _ } => Ok(()),
-        TStmt::Spawn(_) => Ok(()),
-        TStmt::Break { pos: _ } => Ok(()),
-        TStmt::Continue { pos: _ } => Ok(()),
-        TStmt::Return { pos: _, value: _ } => Ok(()),
-        TStmt::Sync => Ok(()),
+        TStmt::Empty | TStmt::Sync | TStmt::Eval(_) | TStmt::Spawn(_) => Ok(()),
+        TStmt::Assign { .. } | TStmt::AddTo { .. } | TStmt::Up { .. } | TStmt::Down { .. } => Ok(
+            (),
+        ),
+        TStmt::Break { .. } | TStmt::Continue { .. } | TStmt::Return { .. } => Ok(()),
     }
 }
 

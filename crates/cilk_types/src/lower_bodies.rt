@@ -6,6 +6,7 @@ ghost use Rattle.cilk_model.specs.StatementLowering.{function_of as function_so}
 ghost use Rattle.cilk_types.specs.Making.{walked_of, copies_at, each_at, spare as spare_function, entered, kept_of, signature_of, function_at, back, leaving};
 ghost use Rattle.cilk_types.specs.Around.{around_of};
 
+use crate::counts::one_more;
 use crate::frames::copies;
 use crate::lower_expressions::slot_in;
 use crate::naming::close_scope;
@@ -87,15 +88,6 @@ fn spare(alloc: Global) -> Function
         slots: 0,
         spawns: false,
         body: Stmt::Nothing,
-    }
-}
-
-pub fn one_more(n: u32) -> Result<u32, AllocError>
-    ensures { IfOk result (λ m. m ≡ suc n) }
-{
-    match n.checked_add(1) {
-        Some(m) => Ok(m),
-        None => Err(AllocError),
     }
 }
 

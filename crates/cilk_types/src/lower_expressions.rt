@@ -1,17 +1,20 @@
 //! What expressions are in a program.
 
-ghost use Rattle.std.specs.Prelude.{◌≡◌, ◌∷◌, [], map, IfOk};
+ghost use Rattle.std.specs.Prelude.{◌≡◌, IfOk};
 ghost use Rattle.std.specs.Option.{option_map};
 ghost use Rattle.cilk_model.specs.ExpressionLowering.{slot_in as slot_of, variable as variable_word, address_of as address_where, index_of as index_where, built_in as built_in_of};
 ghost use Rattle.cilk_ast.specs.declared.program.Expr as program;
 ghost use Rattle.cilk_types.specs.Lowered.{lowered, lowered_list, format_in};
 ghost use Rattle.cilk_types.specs.Shown.{names_of, meaning_of};
+ghost use Rattle.word_ops.specs.declared.operators.BinaryOp.TheVariants as by;
 
-use crate::formats::format;
+use crate::counts::one_more;
+use crate::formats::format as parts;
 use crate::lookup::meaning;
+use crate::lower_builtins::{init, on_none, on_one, on_three, on_two};
+use crate::owned::boxed;
 use crate::scopes::{Meaning, Scopes};
 use cilk_ast::{Builtin, Expr, TExpr};
-use mem_atomics::Op;
 use std::alloc::{AllocError, Global};
 use word_ops::{BinaryOp, Box, List, Pos};
 
@@ -24,10 +27,7 @@ pub fn slot_in(frame: &[u32], number: u32) -> Result<u32, AllocError>
         if *other == number {
             return Ok(slot);
         }
-        slot = match slot.checked_add(1) {
-            Some(slot) => slot,
-            None => return Err(AllocError),
-        };
+        slot = one_more(slot)?;
     }
     Ok(slot)
 }
@@ -63,148 +63,33 @@ fn variable(
 {
     match meaning {
         Some(Meaning::Local(local)) => Ok(Expr::Slot(slot_in(frame, local.number)?)),
-        other => Ok(Expr::Load {
-            pos: at,
-            address: Box::new(alloc, Expr::Word(address_of(other)))?,
-        }),
+        other => {
+            let word = load(alloc, at, Expr::Word(address_of(other)))?;
+            Ok(word)
+        }
     }
 }
 
-/// A built-in on two arguments.
-fn on_two(alloc: Global, at: Pos, which: Builtin, p: Expr, v: Expr) -> Result<Expr, AllocError>
-    ensures { IfOk result (λ e. e ≡ built_in_of at which (p ∷ v ∷ [])) }
+/// The sum of two words.
+pub fn sum(alloc: Global, at: Pos, left: Expr, right: Expr) -> Result<Expr, AllocError>
+    ensures { IfOk result (λ e. e ≡ program.Bin at by.Add left right) }
 {
-    let op = match which {
-        Builtin::RemoteAdd => Op::Add,
-        Builtin::RemoteAnd => Op::And,
-        Builtin::RemoteOr => Op::Or,
-        Builtin::RemoteXor => Op::Xor,
-        Builtin::RemoteMin => Op::Min,
-        Builtin::RemoteMax => Op::Max,
-        Builtin::AtomicAddms => {
-            return Ok(Expr::Add {
-                pos: at,
-                address: Box::new(alloc, p)?,
-                value: Box::new(alloc, v)?,
-            });
-        }
-        Builtin::AtomicSwap => {
-            return Ok(Expr::Swap {
-                pos: at,
-                address: Box::new(alloc, p)?,
-                value: Box::new(alloc, v)?,
-            });
-        }
-        Builtin::MwReplicatedInit => {
-            return Ok(Expr::Init {
-                pos: at,
-                address: Box::new(alloc, p)?,
-                value: Box::new(alloc, v)?,
-            });
-        }
-        _ => {
-            let mut args = List::new(alloc);
-            args.add(p)?;
-            args.add(v)?;
-            return Ok(Expr::Alloc {
-                pos: at,
-                which,
-                args,
-            });
-        }
-    };
-    Ok(Expr::Post {
+    let left = Box::new(alloc, left)?;
+    let right = Box::new(alloc, right)?;
+    Ok(Expr::Bin {
         pos: at,
-        op,
-        address: Box::new(alloc, p)?,
-        value: Box::new(alloc, v)?,
+        op: BinaryOp::Add,
+        left,
+        right,
     })
 }
 
-/// A built-in without arguments.
-fn on_none(alloc: Global, at: Pos, which: Builtin) -> Expr
-    ensures { result ≡ built_in_of at which [] }
+/// The word at an address.
+fn load(alloc: Global, at: Pos, address: Expr) -> Result<Expr, AllocError>
+    ensures { IfOk result (λ e. e ≡ program.Load at address) }
 {
-    match which {
-        Builtin::Fence => Expr::Fence,
-        Builtin::NodeId => Expr::Where,
-        _ => Expr::Alloc {
-            pos: at,
-            which,
-            args: List::new(alloc),
-        },
-    }
-}
-
-/// A built-in on one argument.
-fn on_one(alloc: Global, at: Pos, which: Builtin, p: Expr) -> Result<Expr, AllocError>
-    ensures { IfOk result (λ e. e ≡ built_in_of at which (p ∷ [])) }
-{
-    match which {
-        Builtin::Migrate => Ok(Expr::Move {
-            pos: at,
-            address: Box::new(alloc, p)?,
-        }),
-        _ => {
-            let mut args = List::new(alloc);
-            args.add(p)?;
-            Ok(Expr::Alloc {
-                pos: at,
-                which,
-                args,
-            })
-        }
-    }
-}
-
-/// `ATOMIC_CAS`.
-fn compared(alloc: Global, at: Pos, p: Expr, expected: Expr, v: Expr) -> Result<Expr, AllocError>
-    ensures { IfOk result (λ e. e ≡ program.Cas at p expected v) }
-{
-    let address = Box::new(alloc, p)?;
-    let expected = Box::new(alloc, expected)?;
-    let value = Box::new(alloc, v)?;
-    Ok(Expr::Cas {
-        pos: at,
-        address,
-        expected,
-        value,
-    })
-}
-
-/// Three arguments in a list.
-fn three(alloc: Global, p: Expr, expected: Expr, v: Expr) -> Result<List<Expr>, AllocError>
-    ensures { IfOk result (λ es. es ≡ p ∷ expected ∷ v ∷ []) }
-{
-    let mut args = List::new(alloc);
-    args.add(p)?;
-    args.add(expected)?;
-    args.add(v)?;
-    Ok(args)
-}
-
-/// A built-in on three arguments.
-fn on_three(
-    alloc: Global,
-    at: Pos,
-    which: Builtin,
-    p: Expr,
-    expected: Expr,
-    v: Expr,
-) -> Result<Expr, AllocError>
-    ensures { IfOk result (λ e. e ≡ built_in_of at which (p ∷ expected ∷ v ∷ [])) }
-{
-    match which {
-        Builtin::AtomicCas => compared(alloc, at, p, expected, v),
-        _ => {
-            let args = three(alloc, p, expected, v)?;
-            Ok(Expr::Alloc {
-                pos: at,
-                which,
-                args,
-            })
-        }
-    }
+    let address = Box::new(alloc, address)?;
+    Ok(Expr::Load { pos: at, address })
 }
 
 #[tactic(auto, using(crate::proofs::LowerForms::lowered_forms))]
@@ -219,118 +104,90 @@ pub fn expression(
     ensures { IfOk result (λ x. x ≡ lowered (names_of scopes.now) frame.now e.now) }
 {
     match e {
-        TExpr::Number { pos: _, value } => Ok(Expr::Word(*value)),
+        TExpr::Number { value, .. } => Ok(Expr::Word(*value)),
         TExpr::Var { pos, name } => {
             let word = variable(alloc, frame, *pos, meaning(scopes, name.as_slice()))?;
             Ok(word)
         }
-        TExpr::Paren { pos: _, inner } => {
+        TExpr::Paren { inner, .. } | TExpr::Cast { inner, .. } => {
             let inner = expression(alloc, scopes, frame, inner.get())?;
             Ok(inner)
         }
         TExpr::Un { pos, op, inner } => Ok(Expr::Un {
             pos: *pos,
             op: *op,
-            inner: Box::new(alloc, expression(alloc, scopes, frame, inner.get())?)?,
+            inner: part(alloc, scopes, frame, inner.get())?,
         }),
         TExpr::Deref { pos, inner } => Ok(Expr::Load {
             pos: *pos,
-            address: Box::new(alloc, expression(alloc, scopes, frame, inner.get())?)?,
+            address: part(alloc, scopes, frame, inner.get())?,
         }),
-        TExpr::Cast {
-            pos: _,
-            kind: _,
-            inner,
-        } => {
-            let inner = expression(alloc, scopes, frame, inner.get())?;
-            Ok(inner)
-        }
         TExpr::Index { pos, base, index } => {
             let base = expression(alloc, scopes, frame, base.get())?;
             let index = expression(alloc, scopes, frame, index.get())?;
-            let sum = Expr::Bin {
-                pos: *pos,
-                op: BinaryOp::Add,
-                left: Box::new(alloc, base)?,
-                right: Box::new(alloc, index)?,
-            };
-            Ok(Expr::Load {
-                pos: *pos,
-                address: Box::new(alloc, sum)?,
-            })
+            let word = load(alloc, *pos, sum(alloc, *pos, base, index)?)?;
+            Ok(word)
         }
         TExpr::Bin {
             pos,
             op,
             left,
             right,
-        } => {
-            let left = expression(alloc, scopes, frame, left.get())?;
-            let right = expression(alloc, scopes, frame, right.get())?;
-            Ok(Expr::Bin {
-                pos: *pos,
-                op: *op,
-                left: Box::new(alloc, left)?,
-                right: Box::new(alloc, right)?,
-            })
-        }
-        TExpr::Both { pos, left, right } => {
-            let left = expression(alloc, scopes, frame, left.get())?;
-            let right = expression(alloc, scopes, frame, right.get())?;
-            Ok(Expr::Both {
-                pos: *pos,
-                left: Box::new(alloc, left)?,
-                right: Box::new(alloc, right)?,
-            })
-        }
-        TExpr::Either { pos, left, right } => {
-            let left = expression(alloc, scopes, frame, left.get())?;
-            let right = expression(alloc, scopes, frame, right.get())?;
-            Ok(Expr::Either {
-                pos: *pos,
-                left: Box::new(alloc, left)?,
-                right: Box::new(alloc, right)?,
-            })
-        }
-        TExpr::Call { pos, name, args } => {
-            let args = expressions(alloc, scopes, frame, args.as_slice())?;
-            Ok(Expr::Call {
-                pos: *pos,
-                function: index_of(meaning(scopes, name.as_slice())),
-                args,
-            })
-        }
+        } => Ok(Expr::Bin {
+            pos: *pos,
+            op: *op,
+            left: part(alloc, scopes, frame, left.get())?,
+            right: part(alloc, scopes, frame, right.get())?,
+        }),
+        TExpr::Both { pos, left, right } => Ok(Expr::Both {
+            pos: *pos,
+            left: part(alloc, scopes, frame, left.get())?,
+            right: part(alloc, scopes, frame, right.get())?,
+        }),
+        TExpr::Either { pos, left, right } => Ok(Expr::Either {
+            pos: *pos,
+            left: part(alloc, scopes, frame, left.get())?,
+            right: part(alloc, scopes, frame, right.get())?,
+        }),
+        TExpr::Call { pos, name, args } => Ok(Expr::Call {
+            pos: *pos,
+            function: index_of(meaning(scopes, name.as_slice())),
+            args: expressions(alloc, scopes, frame, args.as_slice())?,
+        }),
         TExpr::Builtin { pos, which, args } => {
             let made = built_in(alloc, scopes, frame, *pos, *which, args.as_slice())?;
             Ok(made)
         }
-        TExpr::Print {
-            pos: _,
-            text_pos: _,
-            format: bytes,
-            args,
-        } => {
-            let args = expressions(alloc, scopes, frame, args.as_slice())?;
-            Ok(Expr::Print {
-                format: format(alloc, bytes.as_slice())?,
-                args,
-            })
-        }
+        TExpr::Print { format, args, .. } => Ok(Expr::Print {
+            format: parts(alloc, format.as_slice())?,
+            args: expressions(alloc, scopes, frame, args.as_slice())?,
+        }),
         TExpr::InitAt {
             pos,
-            name_pos: _,
             name,
             value,
+            ..
         } => {
             let value = expression(alloc, scopes, frame, value.get())?;
             let address = Expr::Word(address_of(meaning(scopes, name.as_slice())));
-            Ok(Expr::Init {
-                pos: *pos,
-                address: Box::new(alloc, address)?,
-                value: Box::new(alloc, value)?,
-            })
+            let made = init(alloc, *pos, address, value)?;
+            Ok(made)
         }
     }
+}
+
+/// An expression on the heap.
+#[cycle(lowering)]
+fn part(
+    alloc: Global,
+    scopes: &Scopes<'_, '_>,
+    frame: &[u32],
+    e: &TExpr,
+) -> Result<Box<Expr>, AllocError>
+    ensures { IfOk result (λ x. x ≡ lowered (names_of scopes.now) frame.now e.now) }
+{
+    let made = expression(alloc, scopes, frame, e)?;
+    boxed(alloc, made)
 }
 
 /// Expressions in a list.

@@ -1,15 +1,14 @@
 //! What the items of a file are in a program.
 
-ghost use Rattle.std.specs.Prelude.{◌≡◌, suc, [], List, ◌∷◌, ◌++◌, IfOk, OnOk};
+ghost use Rattle.std.specs.Prelude.{◌≡◌, [], List, ◌∷◌, ◌++◌, IfOk};
 ghost use Rattle.cilk_ast.specs.declared.tree.Item.{Item};
 ghost use Rattle.cilk_model.specs.Breaks.{entries_from, functions_of};
 ghost use Rattle.cilk_model.specs.Lowering.{main_of};
 ghost use Rattle.cilk_types.specs.Functions.{with_item as item_with, with_items, main_with, AreCounted};
 ghost use Rattle.cilk_types.specs.Shown.{file_of};
 
-use crate::counts::Counts;
+use crate::counts::{Counts, one_more};
 use crate::items::is_main;
-use crate::lower_bodies::one_more;
 use crate::lower_functions::{Outlined, function};
 use crate::names::{count, file_names, pass};
 use crate::scopes::FileNames;

@@ -1,17 +1,14 @@
 //! What statements are in a program.
 
 ghost use Rattle.std.specs.Prelude.{◌≡◌, [], ◌∷◌, IfOk, OnOk};
-ghost use Rattle.cilk_ast.specs.declared.program.Expr.{Word};
 ghost use Rattle.cilk_ast.specs.declared.program.Stmt as program;
-ghost use Rattle.cilk_model.specs.Sorts.{begins_at};
-ghost use Rattle.cilk_model.specs.StatementLowering.{added as added_to};
-ghost use Rattle.cilk_types.specs.Making.{walked_of, within, without, word_at, tested_at, side_at, assigned_at, made as made_of, past as past_of, made_part, past_part, made_list, past_list, copies_at, each_at, past_body};
+ghost use Rattle.cilk_types.specs.Making.{walked_of, within, without, word_at, tested_at, made as made_of, past as past_of, made_part, past_part, made_list, past_list, copies_at, each_at, past_body};
 
 use crate::lower_bodies::{copies_of, each_of, enter, leave};
-use crate::lower_values::{added, assigned, in_turn, left_side, local, returned, spawn_to, tested};
+use crate::lower_values::{add_to, assign, in_turn, local, returned, spawn_to, step_by, tested};
 use crate::owned::boxed;
-use crate::walk::{Walk, close, first_token, open, word};
-use cilk_ast::{Expr, Stmt, TExpr, TStmt, TValue};
+use crate::walk::{Walk, close, open, word};
+use cilk_ast::{Expr, Stmt, TExpr, TStmt};
 use std::alloc::{AllocError, Global};
 use word_ops::{Box, List, Pos};
 
@@ -20,51 +17,6 @@ use word_ops::{Box, List, Pos};
 pub struct Tested {
     pub test: Expr,
     pub body: Box<Stmt>,
-}
-
-/// `left = value`.
-fn assign(
-    alloc: Global,
-    walk: &Walk<'_, '_>,
-    left: &TExpr,
-    value: &TValue,
-) -> Result<Stmt, AllocError>
-    ensures { IfOk result (λ s. s ≡ assigned_at (walked_of walk.now) (side_at (walked_of walk.now) left.now) value.now) }
-{
-    let side = left_side(alloc, walk, left)?;
-    let made = assigned(alloc, walk, side, value)?;
-    Ok(made)
-}
-
-/// `left += value`.
-fn add_to(
-    alloc: Global,
-    walk: &Walk<'_, '_>,
-    at: Pos,
-    left: &TExpr,
-    value: &TExpr,
-) -> Result<Stmt, AllocError>
-    ensures { IfOk result (λ s. s ≡ added_to at (side_at (walked_of walk.now) left.now) (word_at (walked_of walk.now) value.now)) }
-{
-    let side = left_side(alloc, walk, left)?;
-    let word = word(alloc, walk, value)?;
-    let made = added(alloc, at, side, word)?;
-    Ok(made)
-}
-
-/// `left++` or `left--`.
-fn step_by(
-    alloc: Global,
-    walk: &Walk<'_, '_>,
-    left: &TExpr,
-    amount: i64,
-) -> Result<Stmt, AllocError>
-    ensures { IfOk result (λ s. s ≡ added_to (begins_at left.now) (side_at (walked_of walk.now) left.now) (Word amount)) }
-{
-    let at = first_token(walk, left);
-    let side = left_side(alloc, walk, left)?;
-    let made = added(alloc, at, side, Expr::Word(amount))?;
-    Ok(made)
 }
 
 #[tactic(auto, using(crate::proofs::MakingValues::made_simple, crate::proofs::MakingValues::past_simple, crate::proofs::MakingForms::making_control, crate::proofs::MakingLoops::making_loops))]
@@ -82,17 +34,13 @@ pub fn statement<'a>(
         TStmt::Empty => Ok(Stmt::Nothing),
         TStmt::Block(body) => block(alloc, walk, body.as_slice()),
         TStmt::Local {
-            pos: _,
             kind,
             name,
             value,
+            ..
         } => local(alloc, walk, *kind, name.as_slice(), value),
         TStmt::Eval(e) => Ok(Stmt::Eval(word(alloc, walk, e)?)),
-        TStmt::Assign {
-            pos: _,
-            left,
-            value,
-        } => assign(alloc, walk, left, value),
+        TStmt::Assign { left, value, .. } => assign(alloc, walk, left, value),
         TStmt::AddTo { pos, left, value } => add_to(alloc, walk, *pos, left, value),
         TStmt::Up { left } => step_by(alloc, walk, left, 1),
         TStmt::Down { left } => step_by(alloc, walk, left, -1),
@@ -118,14 +66,13 @@ pub fn statement<'a>(
             pos,
             name,
             low,
-            second: _,
             high,
-            third: _,
             body,
+            ..
         } => each(alloc, walk, *pos, name.as_slice(), body.get(), low, high),
         TStmt::Break { pos: _ } => Ok(Stmt::Break),
         TStmt::Continue { pos: _ } => Ok(Stmt::Continue),
-        TStmt::Return { pos: _, value } => Ok(Stmt::Return(returned(alloc, walk, value)?)),
+        TStmt::Return { value, .. } => Ok(Stmt::Return(returned(alloc, walk, value)?)),
         TStmt::Sync => Ok(Stmt::Sync),
     }
 }

@@ -1,37 +1,24 @@
 //! What left sides, values, spawns and declarations are in a program.
 
 ghost use Rattle.std.specs.Prelude.{◌≡◌, [], ◌∷◌, Some, pos, IfOk, OnOk};
-ghost use Rattle.cilk_ast.specs.declared.program.Expr.{Word, Bin};
+ghost use Rattle.cilk_ast.specs.declared.program.Expr.{Word};
 ghost use Rattle.cilk_ast.specs.declared.program.Stmt as program;
+ghost use Rattle.cilk_model.specs.Sorts.{begins_at};
 ghost use Rattle.cilk_model.specs.StatementLowering.{put as put_into, added as added_to, target_of as slot_of};
 ghost use Rattle.cilk_types.specs.Making.{walked_of, word_at, hint_at, tested_at, returned_at, side_at, spawned_at, assigned_at, initial_at, local_at, declared_at};
 ghost use Rattle.cilk_types.specs.Sides.{side_of};
-ghost use Rattle.word_ops.specs.declared.operators.BinaryOp.TheVariants as by;
 
+use crate::lower_expressions::sum;
 use crate::naming::declare;
 use crate::owned::pair;
 use crate::walk::{Side, Walk, called, first_token, index, variable_side, word, words};
 use cilk_ast::{Expr, Kind, Stmt, TExpr, TSpawn, TValue};
 use std::alloc::{AllocError, Global};
-use word_ops::{BinaryOp, Box, Pos};
-
-/// The sum of two words.
-fn sum(alloc: Global, at: Pos, left: Expr, right: Expr) -> Result<Expr, AllocError>
-    ensures { IfOk result (λ e. e ≡ Bin at by.Add left right) }
-{
-    let left = Box::new(alloc, left)?;
-    let right = Box::new(alloc, right)?;
-    Ok(Expr::Bin {
-        pos: at,
-        op: BinaryOp::Add,
-        left,
-        right,
-    })
-}
+use word_ops::Pos;
 
 #[tactic(auto, using(crate::proofs::MakingValues::side_lowered))]
 /// A left side.
-pub fn left_side(alloc: Global, walk: &Walk<'_, '_>, left: &TExpr) -> Result<Side, AllocError>
+fn left_side(alloc: Global, walk: &Walk<'_, '_>, left: &TExpr) -> Result<Side, AllocError>
     ensures { IfOk result (λ s. side_of s ≡ side_at (walked_of walk.now) left.now) }
 {
     match left {
@@ -76,7 +63,7 @@ fn put(side: Side, value: Expr) -> Stmt
 }
 
 /// A word added to a side; `at` is the place of a sum in a slot.
-pub fn added(alloc: Global, at: Pos, side: Side, value: Expr) -> Result<Stmt, AllocError>
+fn added(alloc: Global, at: Pos, side: Side, value: Expr) -> Result<Stmt, AllocError>
     ensures { IfOk result (λ s. s ≡ added_to at (side_of side) value) }
 {
     match side {
@@ -140,7 +127,7 @@ fn target_of(side: &Side) -> Option<u32>
 
 #[tactic(auto, using(crate::proofs::MakingValues::value_forms))]
 /// `left = value`.
-pub fn assigned(
+fn assigned(
     alloc: Global,
     walk: &Walk<'_, '_>,
     side: Side,
@@ -159,6 +146,51 @@ pub fn assigned(
             Ok(made)
         }
     }
+}
+
+/// `left = value`.
+pub fn assign(
+    alloc: Global,
+    walk: &Walk<'_, '_>,
+    left: &TExpr,
+    value: &TValue,
+) -> Result<Stmt, AllocError>
+    ensures { IfOk result (λ s. s ≡ assigned_at (walked_of walk.now) (side_at (walked_of walk.now) left.now) value.now) }
+{
+    let side = left_side(alloc, walk, left)?;
+    let made = assigned(alloc, walk, side, value)?;
+    Ok(made)
+}
+
+/// `left += value`.
+pub fn add_to(
+    alloc: Global,
+    walk: &Walk<'_, '_>,
+    at: Pos,
+    left: &TExpr,
+    value: &TExpr,
+) -> Result<Stmt, AllocError>
+    ensures { IfOk result (λ s. s ≡ added_to at (side_at (walked_of walk.now) left.now) (word_at (walked_of walk.now) value.now)) }
+{
+    let side = left_side(alloc, walk, left)?;
+    let word = word(alloc, walk, value)?;
+    let made = added(alloc, at, side, word)?;
+    Ok(made)
+}
+
+/// `left++` or `left--`.
+pub fn step_by(
+    alloc: Global,
+    walk: &Walk<'_, '_>,
+    left: &TExpr,
+    amount: i64,
+) -> Result<Stmt, AllocError>
+    ensures { IfOk result (λ s. s ≡ added_to (begins_at left.now) (side_at (walked_of walk.now) left.now) (Word amount)) }
+{
+    let at = first_token(walk, left);
+    let side = left_side(alloc, walk, left)?;
+    let made = added(alloc, at, side, Expr::Word(amount))?;
+    Ok(made)
 }
 
 /// Two statements one behind the other.

@@ -1,10 +1,10 @@
 //! The locals that statements name.
 
 ghost use Rattle.std.specs.Prelude.{◌≡◌, ◌++◌, OnOk};
-ghost use Rattle.cilk_model.specs.Scopes.{opened, closed};
+ghost use Rattle.cilk_model.specs.Scopes.{declared, opened, closed};
 ghost use Rattle.cilk_model.specs.Locals.{in_body};
-ghost use Rattle.cilk_types.specs.Named.{named_within, named_within_part, named_within_list};
-ghost use Rattle.cilk_types.specs.Shown.{scopes_of};
+ghost use Rattle.cilk_types.specs.Named.{named_of_initial, named_within, named_within_part, named_within_list};
+ghost use Rattle.cilk_types.specs.Shown.{names_of, scopes_of};
 ghost use Rattle.cilk_types.specs.Walking.{left_by, left_by_part, left_by_list};
 
 use crate::named::{
@@ -13,7 +13,7 @@ use crate::named::{
 use crate::naming::{close_scope, declare, open_scope};
 use crate::scopes::Scopes;
 use crate::statements::enter_body;
-use cilk_ast::TStmt;
+use cilk_ast::{Kind, TStmt, TValue};
 use std::alloc::{AllocError, Global};
 use word_ops::{Box, List};
 
@@ -37,11 +37,7 @@ pub fn add_named_in<'a>(
             name,
             value,
             ..
-        } => {
-            add_named_initial(scopes, value, named)?;
-            let _ = declare(scopes, name.as_slice(), *kind)?;
-            Ok(())
-        }
+        } => local(scopes, *kind, name.as_slice(), value, named),
         TStmt::Eval(e) => add_named(scopes, e, named),
         TStmt::Assign { left, value, .. } => {
             add_named(scopes, left, named)?;
@@ -51,8 +47,7 @@ pub fn add_named_in<'a>(
             add_named(scopes, left, named)?;
             add_named(scopes, value, named)
         }
-        TStmt::Up { left } => add_named(scopes, left, named),
-        TStmt::Down { left } => add_named(scopes, left, named),
+        TStmt::Up { left } | TStmt::Down { left } => add_named(scopes, left, named),
         TStmt::Spawn(spawn) => add_named_spawn(scopes, spawn, named),
         TStmt::If { test, yes, no } => {
             add_named(scopes, test, named)?;
@@ -90,11 +85,24 @@ pub fn add_named_in<'a>(
             cilk_for_body(alloc, scopes, name.as_slice(), body.get(), named)
         }
         TStmt::Return { value, .. } => add_named_option(scopes, value, named),
-        TStmt::Empty => Ok(()),
-        TStmt::Break { .. } => Ok(()),
-        TStmt::Continue { .. } => Ok(()),
-        TStmt::Sync => Ok(()),
+        TStmt::Empty | TStmt::Break { .. } | TStmt::Continue { .. } | TStmt::Sync => Ok(()),
     }
+}
+
+/// A declaration of a local.
+fn local<'a>(
+    scopes: &mut Scopes<'_, 'a>,
+    kind: Kind,
+    name: &'a [u8],
+    value: &Option<TValue>,
+    named: &mut List<u32>,
+) -> Result<(), AllocError>
+    ensures named { OnOk result (named.new ≡ named.old ++ named_of_initial (names_of scopes.old) value.now) }
+    ensures scopes { OnOk result (scopes_of scopes.new ≡ declared name.now kind (scopes_of scopes.old)) }
+{
+    add_named_initial(scopes, value, named)?;
+    let _ = declare(scopes, name, kind)?;
+    Ok(())
 }
 
 /// A block, with a scope of its own.

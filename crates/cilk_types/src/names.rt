@@ -1,6 +1,6 @@
 //! The names that a file declares.
 
-ghost use Rattle.std.specs.Prelude.{◌≡◌, suc, ◌∷◌, ◌++◌, [], List, map, is_some, OnOk, IfOk};
+ghost use Rattle.std.specs.Prelude.{◌≡◌, ◌∷◌, ◌++◌, [], List, map, is_some, OnOk, IfOk};
 ghost use Rattle.std.specs.Option.{option_map};
 ghost use Rattle.std.specs.Map.{lookup};
 ghost use Rattle.std.specs.Str.{bytes_eq};
@@ -8,7 +8,7 @@ ghost use Rattle.cilk_model.specs.Breaks.{Entry, entries_from, item_name};
 ghost use Rattle.cilk_types.specs.Shown.{bare, global_of};
 ghost use Rattle.cilk_types.specs.Files.{entry_of, counted_with, word_in, IsBefore, AreFunctions, Keeps};
 
-use crate::counts::Counts;
+use crate::counts::{Counts, one_more};
 use crate::naming::insert_new;
 use crate::scopes::{FileNames, GlobalWord, Written};
 use cilk_ast::{Item, Kind, Param};
@@ -20,15 +20,6 @@ use word_ops::List;
 const REPLICATED: i64 = 34084860461056;
 
 const PLAIN: i64 = 35184372088832;
-
-fn one_more(count: u32) -> Result<u32, AllocError>
-    ensures { IfOk result (λ n. n ≡ suc count) }
-{
-    match count.checked_add(1) {
-        Some(count) => Ok(count),
-        None => Err(AllocError),
-    }
-}
 
 /// How many functions and globals there are behind an item.
 pub fn count(counts: Counts, item: &Item) -> Result<Counts, AllocError>

@@ -4,6 +4,7 @@ ghost use Rattle.std.specs.Prelude.{◌≡◌, suc, OnOk, IfOk};
 ghost use Rattle.cilk_model.specs.Scopes.{declared, opened, closed, is_twice, has_name, with_new};
 ghost use Rattle.cilk_types.specs.Shown.{scopes_of, bare};
 
+use crate::counts::one_more;
 use crate::scopes::{Local, Scopes};
 use cilk_ast::Kind;
 use indexmap::IndexMap;
@@ -55,10 +56,7 @@ pub fn declare<'a>(
         number: scopes.count,
         level: scopes.level,
     };
-    let count = match scopes.count.checked_add(1) {
-        Some(count) => count,
-        None => return Err(AllocError),
-    };
+    let count = one_more(scopes.count)?;
     scopes.count = count;
     match scopes.around.pop() {
         None => Ok(false),

@@ -1,13 +1,14 @@
 //! Rules of kinds over the parts of a form.
 
-ghost use Rattle.std.specs.Prelude.{◌≡◌, ◌&&◌};
+ghost use Rattle.std.specs.Prelude.{◌≡◌, ◌&&◌, pos};
 ghost use Rattle.std.specs.Option.{option_map};
 ghost use Rattle.cilk_model.specs.FirstFault.{broken_if as breaks_if, first_fault};
 ghost use Rattle.cilk_model.specs.Sorts.{kind_if as kind_where, is_replicated as replicated};
 ghost use Rattle.cilk_model.specs.ExpressionBreaks.{index_misfits};
-ghost use Rattle.cilk_types.specs.Judging.{part_of, test_of, is_good as good, wrong_with as wrong_in, of_one, of_operator, of_logic, of_index, of_variable, of_init};
+ghost use Rattle.cilk_types.specs.Judging.{part_of, test_of, is_good as good, wrong_with as wrong_in, of_one, of_operator, of_logic, of_index, of_literal, of_variable, of_init};
 ghost use Rattle.cilk_types.specs.Arguments.{argument_of, joined};
 ghost use Rattle.cilk_types.specs.Shown.{meaning_of};
+ghost use Rattle.word_ops.specs.Operators.{same_word};
 
 use crate::first::earlier;
 use crate::judgement::{Arguments, Judgement, Want};
@@ -65,6 +66,30 @@ pub fn kind_if(holds: bool, kind: Kind) -> Option<Kind>
     ensures { result ≡ kind_where holds kind }
 {
     if holds { Some(kind) } else { None }
+}
+
+/// A literal.
+pub fn literal(at: Pos, value: i64) -> Judgement
+    ensures { result ≡ of_literal at (same_word value (pos 0)) }
+{
+    Judgement {
+        at,
+        is_literal_0: value == 0,
+        kind: Some(Kind::Long),
+        fault: None,
+    }
+}
+
+/// An expression in its brackets, of which the first is its first token.
+pub fn bracketed(at: Pos, part: Judgement) -> Judgement
+    ensures { result ≡ record part { at = at } }
+{
+    Judgement {
+        at,
+        is_literal_0: part.is_literal_0,
+        kind: part.kind,
+        fault: part.fault,
+    }
 }
 
 /// A form with one part, which gives a kind.

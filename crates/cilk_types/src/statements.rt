@@ -11,6 +11,7 @@ ghost use Rattle.cilk_types.specs.Values.{part_fault as fault_of_part, side_faul
 ghost use Rattle.cilk_types.specs.Judging.{judgement, wrong_with as wrong_in};
 ghost use Rattle.cilk_types.specs.Walking.{fault_in, left_by, fault_in_part, left_by_part, fault_in_list, left_by_list};
 
+use crate::counts::one_more;
 use crate::expressions::judge;
 use crate::first::earlier;
 use crate::judgement::Want;
@@ -40,7 +41,7 @@ pub fn statement<'a>(
     ensures scopes { OnOk result (scopes_of scopes.new ≡ left_by s.now (scopes_of scopes.old)) }
 {
     match s {
-        TStmt::Empty => Ok(None),
+        TStmt::Empty | TStmt::Sync => Ok(None),
         TStmt::Block(body) => block(alloc, scopes, gives, body.as_slice(), inside),
         TStmt::Local {
             pos,
@@ -49,18 +50,9 @@ pub fn statement<'a>(
             value,
         } => { local(scopes, *pos, *kind, name.as_slice(), value) }
         TStmt::Eval(e) => Ok(judge(scopes, e).fault),
-        TStmt::Assign {
-            pos: _,
-            left,
-            value,
-        } => Ok(assign(scopes, left, value)),
-        TStmt::AddTo {
-            pos: _,
-            left,
-            value,
-        } => Ok(add_to(scopes, left, value)),
-        TStmt::Up { left } => Ok(step_by_one(scopes, left)),
-        TStmt::Down { left } => Ok(step_by_one(scopes, left)),
+        TStmt::Assign { left, value, .. } => Ok(assign(scopes, left, value)),
+        TStmt::AddTo { left, value, .. } => Ok(add_to(scopes, left, value)),
+        TStmt::Up { left } | TStmt::Down { left } => Ok(step_by_one(scopes, left)),
         TStmt::Spawn(s) => Ok(spawn(scopes, s).fault),
         TStmt::If { test, yes, no } => {
             let wrong = part_fault(scopes, Want::Value, test);
@@ -88,22 +80,22 @@ pub fn statement<'a>(
             Ok(earlier(earlier(earlier(first, second), third), fourth))
         }
         TStmt::CilkFor {
-            pos: _,
             name,
             low,
             second,
             high,
             third,
             body,
+            ..
         } => {
             let head = cilk_for_head(scopes, name.as_slice(), low, second, high, third);
             let more = cilk_for_body(alloc, scopes, gives, name.as_slice(), body.get())?;
             Ok(earlier(head, more))
         }
-        TStmt::Break { pos } => Ok(broken_if(!inside, FaultKind::Escapes, *pos)),
-        TStmt::Continue { pos } => Ok(broken_if(!inside, FaultKind::Escapes, *pos)),
+        TStmt::Break { pos } | TStmt::Continue { pos } => {
+            Ok(broken_if(!inside, FaultKind::Escapes, *pos))
+        }
         TStmt::Return { pos, value } => Ok(return_from(scopes, gives, *pos, value)),
-        TStmt::Sync => Ok(None),
     }
 }
 
@@ -220,13 +212,9 @@ pub fn enter_body<'a>(
 {
     open_scope(alloc, scopes)?;
     let _ = declare(scopes, name, Kind::Long)?;
-    match scopes.level.checked_add(1) {
-        Some(level) => {
-            scopes.level = level;
-            Ok(())
-        }
-        None => Err(AllocError),
-    }
+    let level = one_more(scopes.level)?;
+    scopes.level = level;
+    Ok(())
 }
 
 /// A declaration of a local.

@@ -3,8 +3,7 @@ use Rattle.std.proofs.lemmas.List.{map_push, nil_from_length}
 use Rattle.std.proofs.lemmas.List.Elements.{All-push, All-take}
 use Rattle.cilk_ast.specs.declared.tree.TExpr as code
 use Rattle.cilk_ast.specs.declared.tree.TExpr.{TExpr, size-TExpr}
-use Rattle.cilk_model.specs.Layout.{put}
-use Rattle.cilk_model.specs.TreeTokens.{mark, expression}
+use Rattle.cilk_model.specs.TreeTokens.{expression}
 use Rattle.std.proofs.lemmas.Grind.{common_steps}
 use Rattle.cilk_print.specs.Printing.{printed, printed_behind, printed_indexes, indexes_of}
 use Rattle.cilk_print.proofs.ExpressionSteps.{behind_next, behind_last, between_first, between_nothing}
@@ -66,11 +65,9 @@ expression-loop-index-preserved t c =
     let popped : c.loop-index.indexes.items ≡ c.pop.new.self.items ++ c.in-Some.index ∷ [] = c.in-Some.ensures.items in
     let all_seen : seen c.loop-index.indexes.items ≡ seen c.pop.new.self.items ++ c.in-Some.index.now ∷ [] =
     ap seen popped ∙ map_push (λ (i : Bor TExpr). i.now) c.pop.new.self.items c.in-Some.index in
-    let is_page : c.tight.new.page ≡ put (printed (put c.loop-index.page (mark "[")) c.in-Some.index.now) (mark "]") =
-    c.in_ok-tight.ensures ∙ ap (λ p. put p (mark "]")) (c.in_ok-expression.ensures ∙ ap (λ p. printed p c.in-Some.index.now) c.in_ok-open_square.ensures) in
     record {
       depths = subst (All (is_below c.args.e.now)) (sym c.pop.ensures.rest) (All-take (is_below c.args.e.now) _ c.loop-index.indexes.items c.loop-index.invariant.depths);
-      left = ap (λ p. printed_indexes p (seen c.pop.new.self.items)) is_page
+      left = ap (λ p. printed_indexes p (seen c.pop.new.self.items)) c.in_ok-in_square.ensures
           ∙ sym (chain_index c.loop-index.page (seen c.pop.new.self.items) c.in-Some.index.now)
           ∙ sym (ap (printed_indexes c.loop-index.page) all_seen)
           ∙ c.loop-index.invariant.left;
