@@ -14,21 +14,25 @@ use Rattle.world_model.specs.World.{Setting, World}
 use Rattle.world_model.specs.Run.{run_of, end_of, Rest}
 use Rattle.cilk_ast.specs.declared.program.Program.{Program}
 use Rattle.cilk_ast.specs.declared.tree.Tree.{Tree}
-use Rattle.cilk_model.specs.Texts.{SpellsTree, FirstFault}
+use Rattle.cilk_model.specs.Texts.{SpellsTree, SpellsProgram, FirstFault}
 use Rattle.cilk_model.specs.Checked.{Checked as IsProgram}
 use Rattle.cilk_model.specs.Canonical.{canonical_text}
 use Rattle.cilk_model.specs.ProgramMeaning.{meaning_of}
 use Rattle.cilk_model.specs.Written.{Wanted, setting_of, IsWritten as Writes}
+use Rattle.threadlet_code.specs.declared.code.Code.{Code}
+use Rattle.codegen_expr.specs.Implements.{Implements}
+use Rattle.codegen_stmt.specs.Heights.{IsNarrow}
+use Rattle.code_text.specs.CodeText.{code_text}
 use Rattle.first_path.specs.declared.script.Script.{Script}
 use Rattle.emu_words.specs.declared.asked.Asked.{Asked}
 use Rattle.emu_words.specs.declared.asked.Mode.{Mode}
-use Rattle.emu_words.specs.declared.asked.Mode.TheVariants.{Check, Run}
+use Rattle.emu_words.specs.declared.asked.Mode.TheVariants.{Check, Emit, Run}
 use Rattle.emu_top.specs.Words.{request_in, Asks}
-use Rattle.emu_top.specs.Verdicts.{status_of, text_of, ran_of, fault_of}
+use Rattle.emu_top.specs.Verdicts.{status_of, text_of, ran_of, fault_of, code_of}
 use Rattle.emu_top.specs.declared.ended.Ran.{Ran}
 use Rattle.emu_top.specs.declared.ended.Ended.{Ended}
 use Rattle.emu_top.specs.declared.verdict.Verdict.{Verdict}
-use Rattle.emu_top.specs.declared.verdict.Verdict.TheVariants.{BadWords, Unread, TooLong, Refused, Printed, HasRun}
+use Rattle.emu_top.specs.declared.verdict.Verdict.TheVariants.{BadWords, Unread, TooLong, Refused, Printed, Emitted, HasRun}
 
 -- the most bytes that a text has
 abbrev pub text_limit : ℕ
@@ -60,6 +64,17 @@ pub record IsPrintOf (text bytes : List ℕ) : Type 0 where
   pub checked : IsProgram tree program
   pub printed : bytes ≡ canonical_text tree
 
+-- code that implements a program, with no more slots and no higher stacks than that needs, and the code's text
+pub record IsCodeOf (program : Program) (code : Code) (bytes : List ℕ) : Type 0 where
+  pub implements : Implements code program
+  pub narrow : IsNarrow code program
+  pub written : bytes ≡ code_text code
+
+-- the code of a program, and its text
+abbrev pub IsEmitted : Program → Verdict → Type 0
+IsEmitted program (Emitted code bytes) = IsCodeOf program code.code bytes
+IsEmitted program _ = ⊥
+
 -- a run of the program that the text spells, as it was asked for: its steps lead to a world where nothing is
 -- possible any more, and its output, its ending and what is written are those of these steps
 pub record IsRunOf (asked : Asked) (text : List ℕ) (ran : Ran) : Type 0 where
@@ -84,15 +99,17 @@ abbrev pub RefusesText : List ℕ → TextRefusal → Type 0
 RefusesText text (refusal.Fault fault) = FirstFault text fault
 RefusesText text refusal.OutOfMemory = Unit {0}
 
--- a text is refused: in a check for its first fault, in a run because it spells no script
+-- a text is refused: in a run because it spells no script, else for its first fault
 abbrev pub IsRefused : Mode → List ℕ → TextFault → Type 0
 IsRefused Check text fault = FirstFault text fault
+IsRefused Emit text fault = FirstFault text fault
 IsRefused _ text fault = (fault ≡ unbuilt) × NoScript text
 
 -- the verdict on a text, as the words asked for it
 abbrev pub JudgesText : Asked → List ℕ → Verdict → Type 0
 JudgesText asked text (Refused fault) = IsRefused asked.mode text fault
 JudgesText asked text (Printed bytes) = (asked.mode ≡ Check) × IsPrintOf text bytes
+JudgesText asked text (Emitted code bytes) = (asked.mode ≡ Emit) × ((program : Program) × SpellsProgram text program × IsCodeOf program code.code bytes)
 JudgesText asked text (HasRun ran) = (asked.mode ≡ Run) × IsRunOf asked text ran
 JudgesText asked text _ = ⊥
 
@@ -116,4 +133,5 @@ pub record IsAnswer (words : List (List ℕ)) (source_before source_after : ℕ)
   pub cause : HasCause words source_before source_after left_before left_after verdict
   pub ran : ended.ran ≡ ran_of verdict
   pub fault : ended.fault ≡ fault_of verdict
+  pub code : ended.code ≡ code_of verdict
   pub written : IsWritten (text_of verdict) ended.status (status_of verdict) sink_before sink_after held_before held_after

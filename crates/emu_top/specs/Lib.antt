@@ -1,3 +1,4 @@
 pub mod Causes
 pub mod Verdicts
 pub mod Words
+pub mod Laws

@@ -3,15 +3,17 @@ use Rattle.std.specs.Prelude.{◌≡◌, ℕ, List, ◌&&◌, not, Bool, true, f
 use Rattle.emu_words.specs.Asking.{asked_of}
 use Rattle.emu_words.specs.declared.asked.Asked.{Asked}
 use Rattle.emu_words.specs.declared.asked.Mode.{Mode}
-use Rattle.emu_words.specs.declared.asked.Mode.TheVariants.{Check, Run}
+use Rattle.emu_words.specs.declared.asked.Mode.TheVariants.{Check, Emit, Run}
 
 -- the modes that are built so far
 abbrev pub is_built_mode : Mode → Bool
 is_built_mode Check = true
+is_built_mode Emit = true
 is_built_mode Run = true
 is_built_mode _ = false
 
--- what is built so far: the check of a text that is read, and its run, of which the output and the ending are wanted
+-- what is built so far: the check of a text that is read, its code, and its run, of which the output and the ending
+-- are wanted
 abbrev pub is_built : Asked → Bool
 is_built asked =
     is_built_mode asked.mode && not asked.report && not asked.memory && not asked.journal && not asked.watch && not (is_some asked.workload)

@@ -1,4 +1,5 @@
 use cilk_ast::TextFault;
+use threadlet_code::Verified;
 use word_ops::{End, List, Step};
 
 /// A run: how it ended, its steps, and the pieces of its output.
@@ -16,11 +17,12 @@ pub enum SourceFault {
     Text(TextFault),
 }
 
-/// What a call came to (docs/outputs.md, "Statuses"): the status, the run where one was made, and the
-/// fault where the source was refused.
+/// What a call came to (docs/outputs.md, "Statuses"): the status, the run where one was made, the fault
+/// where the source was refused, and the code where it was asked for.
 #[derive(Debug, Drop)]
 pub struct Ended {
     pub status: u8,
     pub ran: Option<Ran>,
     pub fault: Option<SourceFault>,
+    pub code: Option<Verified>,
 }

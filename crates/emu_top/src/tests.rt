@@ -32,7 +32,7 @@ fn sink(alloc: Global, step: usize, failing: &[u64]) -> Result<MemSink, AllocErr
 }
 
 /// The status and the bytes of these words on a text.
-fn answer(alloc: Global, texts: &[&str], text: &[u8]) -> Result<(u8, Vec<u8>), AllocError> {
+pub fn answer(alloc: Global, texts: &[&str], text: &[u8]) -> Result<(u8, Vec<u8>), AllocError> {
     let words = words(alloc, texts)?;
     let mut source = source(alloc, text, 7, &[])?;
     let mut sink = sink(alloc, 5, &[])?;
@@ -98,6 +98,31 @@ fn a_text_is_checked_from_its_bytes_to_its_bytes(rt: HostRuntime) -> Result<(), 
     Ok(())
 }
 
+#[test]
+fn a_text_is_compiled_from_its_bytes_to_its_bytes(rt: HostRuntime) -> Result<(), Fail> {
+    let code = b"emu-code 1\nglobals 1\nreplicated 0\nformats 0\nfunctions 1\nmain 0\n\
+        function params 0 slots 0 height 1 spawns 0 length 5\n\
+        0:0 turn\n0:0 push 0\n0:0 return\n0:0 push 0\n0:0 return\nend\n";
+    let rows = [
+        (
+            b"long g; int main() { return 0; }".as_slice(),
+            0,
+            code.as_slice(),
+        ),
+        (
+            b"int main() { return x; }".as_slice(),
+            1,
+            b"fault: 1:21 Unknown\n".as_slice(),
+        ),
+    ];
+    for (text, status, bytes) in rows {
+        let answer = answer(rt.alloc(), &["emit"], text)?;
+        assert_eq!(rt; answer.0, status);
+        assert_eq!(rt; answer.1.as_slice(), bytes);
+    }
+    Ok(())
+}
+
 fn refused(alloc: Global, texts: &[&str]) -> Result<bool, AllocError> {
     let answer = answer(alloc, texts, SUM)?;
     Ok(answer.0 == 2 && answer.1.as_slice() == b"fault: words\n".as_slice())
@@ -128,7 +153,7 @@ fn other_words_ask_for_nothing(rt: HostRuntime) -> Result<(), Fail> {
 
 #[test]
 fn words_that_are_not_built_ask_for_nothing(rt: HostRuntime) -> Result<(), Fail> {
-    for mode in ["emit", "gen", "replay", "audit", "exec", "time", "upgrade"] {
+    for mode in ["gen", "replay", "audit", "exec", "time", "upgrade"] {
         assert!(rt; refused(rt.alloc(), &[mode])?);
     }
     for flag in ["--report", "--memory", "--record", "--watch"] {

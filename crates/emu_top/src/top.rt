@@ -3,7 +3,7 @@ ghost use Rattle.emu_words.specs.declared.asked.Mode.TheVariants.{Run};
 ghost use Rattle.emu_top.specs.Words.{is_built_mode};
 ghost use Rattle.emu_top.specs.Causes.{HasCause, IsAnswer, JudgesText, text_limit};
 
-use crate::checking::checked;
+use crate::checking::read_program;
 use crate::ended::Ended;
 use crate::run::run;
 use crate::verdict::{Verdict, ended, text};
@@ -52,10 +52,9 @@ fn judged(alloc: Global, asked: &Asked, text: &[u8]) -> Result<Verdict, AllocErr
     requires short { length text.now ≤ text_limit }
     ensures { IfOk result (JudgesText asked.now text.now) }
 {
-    if asked.mode == Mode::Check {
-        checked(alloc, asked, text)
-    } else {
-        has_run(alloc, asked, text)
+    match asked.mode {
+        Mode::Check | Mode::Emit => read_program(alloc, asked, text),
+        _ => has_run(alloc, asked, text),
     }
 }
 

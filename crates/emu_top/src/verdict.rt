@@ -1,11 +1,12 @@
 ghost use Rattle.std.specs.Prelude.{◌≡◌, ◌++◌, IfOk, if◌then◌else◌};
 ghost use Rattle.std.specs.List.{concat};
-ghost use Rattle.emu_top.specs.Verdicts.{end_status as end_status_of, status_of, text_of, ran_of, fault_of};
+ghost use Rattle.emu_top.specs.Verdicts.{end_status as end_status_of, status_of, text_of, ran_of, fault_of, code_of};
 
 use crate::ended::{Ended, Ran, SourceFault};
 use crate::texts::fault;
 use cilk_ast::TextFault;
 use std::alloc::{AllocError, Global};
+use threadlet_code::Verified;
 use traffic_report::ending_text;
 use word_ops::{End, List};
 
@@ -22,6 +23,8 @@ pub enum Verdict {
     Refused(TextFault),
     /// The text is a program: its canonical text.
     Printed(List<u8>),
+    /// The text is a program: its code, and the text of that.
+    Emitted { code: Verified, text: List<u8> },
     /// The text was run.
     HasRun(Ran),
 }
@@ -64,6 +67,7 @@ pub(crate) fn text(alloc: Global, verdict: &Verdict) -> Result<List<u8>, AllocEr
         Verdict::TooLong => copied(alloc, b"fault: too long\n"),
         Verdict::Refused(text_fault) => fault(alloc, *text_fault),
         Verdict::Printed(canonical) => copied(alloc, canonical.as_slice()),
+        Verdict::Emitted { text, .. } => copied(alloc, text.as_slice()),
         Verdict::HasRun(ran) => run_text(alloc, ran),
     }
 }
@@ -83,15 +87,22 @@ pub(crate) fn ended(verdict: Verdict, whole: bool) -> Ended
     ensures status { result.status ≡ (if whole then status_of verdict else 6) }
     ensures ran { result.ran ≡ ran_of verdict }
     ensures fault { result.fault ≡ fault_of verdict }
+    ensures code { result.code ≡ code_of verdict }
 {
-    let (status, ran, fault) = match verdict {
-        Verdict::BadWords => (2, None, None),
-        Verdict::Unread => (5, None, None),
-        Verdict::TooLong => (1, None, Some(SourceFault::TooLong)),
-        Verdict::Refused(text_fault) => (1, None, Some(SourceFault::Text(text_fault))),
-        Verdict::Printed(_) => (0, None, None),
-        Verdict::HasRun(ran) => (end_status(ran.end), Some(ran), None),
+    let (status, ran, fault, code) = match verdict {
+        Verdict::BadWords => (2, None, None, None),
+        Verdict::Unread => (5, None, None, None),
+        Verdict::TooLong => (1, None, Some(SourceFault::TooLong), None),
+        Verdict::Refused(text_fault) => (1, None, Some(SourceFault::Text(text_fault)), None),
+        Verdict::Printed(_text) => (0, None, None, None),
+        Verdict::Emitted { code, text: _text } => (0, None, None, Some(code)),
+        Verdict::HasRun(ran) => (end_status(ran.end), Some(ran), None, None),
     };
     let status = if whole { status } else { 6 };
-    Ended { status, ran, fault }
+    Ended {
+        status,
+        ran,
+        fault,
+        code,
+    }
 }

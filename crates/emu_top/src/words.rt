@@ -5,12 +5,12 @@ ghost use Rattle.emu_top.specs.Words.{is_built as is_built_now, request_in};
 use emu_words::{Asked, Mode, WordsRefusal, read};
 use std::alloc::{AllocError, Global};
 
-/// Whether it is built so far: the check of a text that is read, and its run, of which the output and
-/// the ending are wanted (docs/language.md, "What is built").
+/// Whether it is built so far: the check of a text that is read, its code, and its run, of which the
+/// output and the ending are wanted (docs/language.md, "What is built").
 fn is_built(asked: &Asked) -> bool
     ensures { result ≡ is_built_now asked.now }
 {
-    matches!(asked.mode, Mode::Check | Mode::Run)
+    matches!(asked.mode, Mode::Check | Mode::Emit | Mode::Run)
         && !asked.report
         && !asked.memory
         && !asked.journal

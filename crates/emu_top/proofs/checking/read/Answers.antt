@@ -1,5 +1,5 @@
 use Rattle.emu_top.proofs.CheckLemmas.{tokens_refused, syntax_refused, rules_refused}
-use Rattle.emu_top.proofs.checking.canonical.Goals as goal
+use Rattle.emu_top.proofs.checking.read.Goals as goal
 
 pub returns-in-Err-clause-refused : goal.returns-in-Err-clause-refused
 returns-in-Err-clause-refused c = tokens_refused c.args.text.now c.in-Err.refusal c.in-Err.ensures.refused
@@ -7,15 +7,6 @@ returns-in-Err-clause-refused c = tokens_refused c.args.text.now c.in-Err.refusa
 pub returns-in-Err-parse-clause-refused : goal.returns-in-Err-parse-clause-refused
 returns-in-Err-parse-clause-refused c =
     syntax_refused c.args.text.now c.in-Ok.tokens c.in-Err-parse.refusal c.in-Ok.ensures.tokens c.in-Err-parse.ensures.refused
-
-pub returns-in-Ok-print-clause-printed : goal.returns-in-Ok-print-clause-printed
-returns-in-Ok-print-clause-printed c = record {
-  tree = c.in-Ok-parse.tree;
-  program = c.in-Ok-check._program;
-  spells = record { tokens = c.in-Ok.tokens; are_tokens = c.in-Ok.ensures.tokens; spelled = c.in-Ok-parse.ensures.tree };
-  checked = c.in-Ok-check.ensures.program;
-  printed = c.in-Ok-print.ensures.text;
-}
 
 pub returns-clause-refused : goal.returns-clause-refused
 returns-clause-refused c =
