@@ -1,0 +1,4 @@
+pub mod Printing
+pub mod FirstBlocks
+pub mod Refusals
+mod RequestRows
