@@ -1,0 +1,5 @@
+pub mod LastOf
+mod PutBackLaws
+mod PutBackExamples
+mod Moved
+pub mod Movement
