@@ -1,0 +1,134 @@
+-- Every legal event keeps the invariant, and so do events one after the other.
+use Rattle.std.proofs.Common.{◌≡◌, ℕ, ◌+◌, ◌<◌, ◌≤◌, List, [], ◌∷◌, Option, Some, None, refl, ap, ◌∙◌, subst, arith, Bool, true, false, ◌&&◌, not, nat_lt, max, option_map, option_and_then}
+use Rattle.std.specs.Prelude.{◌==◌}
+use Rattle.std.proofs.lemmas.Bool.Decides.{nat_tests}
+use Rattle.word_ops.specs.declared.name.Name.{Name}
+use Rattle.word_ops.specs.declared.step.Step.{Step}
+use Rattle.word_ops.specs.declared.step.NodeEvent.{NodeEvent}
+use Rattle.word_ops.specs.declared.step.NodeEvent.TheVariants as node
+use Rattle.merge_law.specs.declared.event.Event.{Event}
+use Rattle.merge_law.specs.declared.event.Event.TheVariants.{Run, Take}
+use Rattle.merge_law.specs.Machine.{Outcome, last_stamp, is_linked, stamped, run_at, take_at}
+use Rattle.merge_law.specs.Core.{Advance, After, Played, leaving, but_from, take_first, advance, core_after, after, told_first, play}
+use Rattle.merge_law.specs.Merge.{steps_of}
+use Rattle.merge_law.proofs.Somes.{FromIf, FromMap, from_if, from_map, from_then, some_is, swapped}
+use Rattle.world_model.specs.World.{Operation, Grant, World}
+use Rattle.world_model.specs.Run.{run_from}
+use Rattle.threadlet_code.specs.Breaches.{is_sound}
+use Rattle.nodelet_core.specs.Contexts.{Body, Arrival, Issued, Ack, Returned}
+use Rattle.nodelet_core.specs.Nodes.{Setup, Node}
+use Rattle.nodelet_core.specs.Runs.{run}
+use Rattle.nodelet_core.specs.Takes.{take}
+use Rattle.nodelet_core.specs.Machine.{Packet, packet_of, machine_of}
+use Rattle.sim_core.specs.Core.{Core, setting_of}
+use Rattle.sim_core.proofs.Links.{with_first}
+use Rattle.sim_core.proofs.Views.{after_take}
+use Rattle.sim_core.proofs.Invariant.{Invariant}
+use Rattle.sim_core.proofs.Frames.{Kept, stepped}
+use Rattle.sim_core.proofs.Runs.{run_kept}
+use Rattle.sim_core.proofs.Arriving.{arrival_kept}
+use Rattle.sim_core.proofs.Applied.{grant_kept, operation_kept}
+use Rattle.sim_core.proofs.Acknowledging.{ack_kept}
+use Rattle.sim_core.proofs.Returning.{return_kept}
+
+-- both ends of a link are nodelets, and there is one back
+pub record Linked (n from k : ℕ) : Type 0 where
+  pub inside : k < n
+  pub back : is_linked n k from ≡ true
+
+linked_is : (n from k : ℕ) → is_linked n from k ≡ true → Linked n from k
+linked_is n from k e = go (nat_lt from n) refl (nat_lt k n) refl (from == k) refl e
+  where
+    go : (r : Bool) → nat_lt from n ≡ r → (s : Bool) → nat_lt k n ≡ s → (t : Bool) → (from == k) ≡ t → (r && s && not t) ≡ true → Linked n from k
+    go true f true g false h i = let z : (k == from) ≡ false = swapped k from h in record { inside = grind (arith, nat_tests); back = rw (g, f, z) refl }
+    go true f true g true h i = absurd cc
+    go true f false g t h i = absurd cc
+    go false f s g t h i = absurd cc
+
+module _ (u : Setup) (sound : is_sound u.code ≡ true) (some : 1 ≤ u.nodelets) where
+  abbrev KeptAfter : World → After Node Packet → Type 0
+  KeptAfter w a = Kept u w a.core a.entry.entry.step
+
+  -- a packet is taken
+  take_kept : (c : Core) (w : World) → Invariant u c w → (from k : ℕ) → is_linked u.nodelets from k ≡ true → (stamp sent_at : ℕ) (body : Body) (left : List Packet) → c.links from k ≡ packet_of sent_at body ∷ left →
+      (event : ℕ → NodeEvent) → Kept u w (after_take u c from k left stamp event (take u k (c.nodes k) from body)) (take u k (c.nodes k) from body).step
+  take_kept c w inv from k linked stamp sent_at (Arrival x) left first event = arrival_kept u c w inv from k stamp event sent_at x left first
+  take_kept c w inv from k linked stamp sent_at (Ack q late) left first event = ack_kept u c w inv from k stamp event sent_at q late left first
+  take_kept c w inv from k linked stamp sent_at (Returned t value) left first event = return_kept u c w inv from k stamp event sent_at t value left first
+  take_kept c w inv from k linked stamp sent_at (Issued q (Grant extent)) left first event =
+      let l = linked_is u.nodelets from k linked in grant_kept u c w inv from k l.back l.inside some stamp event sent_at q left extent first
+  take_kept c w inv from k linked stamp sent_at (Issued q (Operation op a word at)) left first event =
+      let l = linked_is u.nodelets from k linked in operation_kept u c w inv from k l.back l.inside some stamp event sent_at q left op a word at first
+
+  run_event : (c : Core) (w : World) → Invariant u c w → (k : ℕ) (q : Name) (a : After Node Packet) → after (machine_of u) c (Run k q) ≡ Some a → KeptAfter w a
+  run_event c w inv k q a e =
+      let outer = from_map (core_after c k) (advance (machine_of u) (c.nodes k) (λ o. c.links o k) (Run k q)) a e in
+      let inner = from_if (nat_lt k u.nodelets) (option_map (leaving (λ o. c.links o k)) (run_at (machine_of u) k (c.nodes k) q)) outer.value outer.was in
+      let ran = from_map (leaving (λ o. c.links o k)) (run_at (machine_of u) k (c.nodes k) q) outer.value inner.was in
+      let in_time = from_if (nat_lt (c.nodes k).stamp last_stamp) (option_map (stamped (machine_of u) k ((c.nodes k).stamp + 1) (λ count. node.Run q count)) (run u k (c.nodes k) q)) ran.value ran.was in
+      let made = from_map (stamped (machine_of u) k ((c.nodes k).stamp + 1) (λ count. node.Run q count)) (run u k (c.nodes k) q) ran.value in_time.was in
+      subst (λ (y : After Node Packet). KeptAfter w y) outer.is
+      (subst (λ (y : Advance Node Packet). KeptAfter w (core_after c k y)) ran.is
+      (subst (λ (y : Outcome Node Packet). KeptAfter w (core_after c k (leaving (λ o. c.links o k) y))) made.is
+      (run_kept u sound some c w inv k (below k inner.test) q ((c.nodes k).stamp + 1) (λ count. node.Run q count) made.value made.was)))
+    where
+      below : (k : ℕ) → nat_lt k u.nodelets ≡ true → k < u.nodelets
+      below k f = grind (arith, nat_tests)
+
+  take_event : (c : Core) (w : World) → Invariant u c w → (from k : ℕ) (a : After Node Packet) → after (machine_of u) c (Take from k) ≡ Some a → KeptAfter w a
+  take_event c w inv from k a e = go (c.links from k) refl inner.was
+    where
+      outer : FromMap (core_after c k) (advance (machine_of u) (c.nodes k) (λ o. c.links o k) (Take from k)) a
+      outer = from_map (core_after c k) (advance (machine_of u) (c.nodes k) (λ o. c.links o k) (Take from k)) a e
+
+      inner : FromIf (is_linked u.nodelets from k) (take_first (machine_of u) k (c.nodes k) from (λ o. c.links o k) (c.links from k)) outer.value
+      inner = from_if (is_linked u.nodelets from k) (take_first (machine_of u) k (c.nodes k) from (λ o. c.links o k) (c.links from k)) outer.value outer.was
+
+      go : (l : List Packet) → c.links from k ≡ l → take_first (machine_of u) k (c.nodes k) from (λ o. c.links o k) l ≡ Some outer.value → KeptAfter w a
+      go [] f g = absurd cc
+      go (p ∷ left) f g =
+          let s : ℕ = max (c.nodes k).stamp p.stamp + 1 in
+          let took = from_map (leaving (but_from from left (λ o. c.links o k))) (take_at (machine_of u) k (c.nodes k) from p) outer.value g in
+          let in_time = from_if (nat_lt (c.nodes k).stamp last_stamp && nat_lt p.stamp last_stamp) (option_map (stamped (machine_of u) k s (λ _. node.Take from)) (Some (take u k (c.nodes k) from p.body))) took.value took.was in
+          let made = from_map (stamped (machine_of u) k s (λ _. node.Take from)) (Some (take u k (c.nodes k) from p.body)) took.value in_time.was in
+          subst (λ (y : After Node Packet). KeptAfter w y) outer.is
+          (subst (λ (y : Advance Node Packet). KeptAfter w (core_after c k y)) took.is
+          (subst (λ (y : Outcome Node Packet). KeptAfter w (core_after c k (leaving (but_from from left (λ o. c.links o k)) y))) (some_is _ _ in_time.was)
+          (take_kept c w inv from k inner.test s p.stamp p.body left f (λ _. node.Take from))))
+
+  pub event_kept : (c : Core) (w : World) → Invariant u c w → (event : Event) (a : After Node Packet) → after (machine_of u) c event ≡ Some a → KeptAfter w a
+  event_kept c w inv (Run k q) a e = run_event c w inv k q a e
+  event_kept c w inv (Take from k) a e = take_event c w inv from k a e
+
+  -- ---- events that follow each other
+
+  pub record KeptBy (w : World) (played : Played Node Packet) : Type 0 where
+    pub world : World
+    pub leads : run_from (setting_of u) w (steps_of played.told) ≡ Some world
+    pub holds : Invariant u played.core world
+
+  first_step : (w v : World) (a : After Node Packet) (rest : Played Node Packet) → stepped u w a.entry.entry.step ≡ Some v → KeptBy v rest → KeptBy w (told_first a.entry rest)
+  first_step w v a rest e kept = go a.entry.entry.step refl e
+    where
+      go : (o : Option Step) → a.entry.entry.step ≡ o → stepped u w o ≡ Some v → KeptBy w (told_first a.entry rest)
+      go None f g = record {
+        world = kept.world;
+        leads = ap (λ o. run_from (setting_of u) w (with_first o (steps_of rest.told))) f
+            ∙ subst (λ (y : World). run_from (setting_of u) y (steps_of rest.told) ≡ Some kept.world) (let z : v ≡ w = cc in z) kept.leads;
+        holds = kept.holds;
+      }
+      go (Some t) f g = record {
+        world = kept.world;
+        leads = ap (λ o. run_from (setting_of u) w (with_first o (steps_of rest.told))) f
+            ∙ ap (option_and_then (λ y. run_from (setting_of u) y (steps_of rest.told))) g ∙ kept.leads;
+        holds = kept.holds;
+      }
+
+  pub play_kept : (events : List Event) (c : Core) (w : World) (played : Played Node Packet) → Invariant u c w → play (machine_of u) events c ≡ Some played → KeptBy w played
+  play_kept [] c w played inv e = subst (λ (y : Played Node Packet). KeptBy w y) (some_is _ _ e) (record { world = w; leads = refl; holds = inv })
+  play_kept (event ∷ events) c w played inv e =
+      let first = from_then (λ (a : After Node Packet). option_map (told_first a.entry) (play (machine_of u) events a.core)) (after (machine_of u) c event) played e in
+      let rest = from_map (told_first first.value.entry) (play (machine_of u) events first.value.core) played first.next in
+      let kept = event_kept c w inv event first.value first.was in
+      subst (λ (y : Played Node Packet). KeptBy w y) rest.is
+      (first_step w kept.world first.value rest.value kept.leads (play_kept events first.value.core kept.world rest.value kept.holds rest.was))
