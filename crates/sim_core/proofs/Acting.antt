@@ -22,7 +22,7 @@ use Rattle.nodelet_core.specs.Runs.{outside}
 use Rattle.sim_core.specs.Core.{Core, setting_of}
 use Rattle.sim_core.proofs.Views.{view}
 use Rattle.sim_core.proofs.Invariant.{IsAway, Invariant}
-use Rattle.sim_core.proofs.Sees.{both_true, and_true_from, not_both, can_act-same, place_after-same, is_leaving-same, moves_ready}
+use Rattle.sim_core.proofs.Sees.{Sees, and_true_from, can_act-same, place_after-same, is_leaving-same, moves_ready}
 use Rattle.sim_core.proofs.Before.{Before, seen_here, seen, is_due, away_action, sees, none_under_way, world_clear, same_late, childless_same, all_ended_same}
 use Rattle.sim_core.proofs.Ways.{IsDone, IsLate, leaving_clear}
 
@@ -120,7 +120,7 @@ module _ (u : Setup) (sound : is_sound u.code ≡ true) (c : Core) (w : World) (
     goes = sym (place_after-same n here there s action) ∙ d.stays_here;
   }
     where
-      s : Rattle.sim_core.proofs.Sees.Sees here there
+      s : Sees here there
       s = sees u sound c w inv k q x state action b e
 
       by : x.late ≡ None → (t : Bool) → is_leaving n here action ≡ t → (b.s.late ≡ None) ⊎ (is_leaving n there action ≡ false)
@@ -249,7 +249,7 @@ module _ (u : Setup) (sound : is_sound u.code ≡ true) (c : Core) (w : World) (
           let none : x.late ≡ None = same_late u sound c w inv k q x state action b away.clear ∙ away.late in
           let z : Some at ≡ None = sym l.late ∙ none in cc)) b.here.bound
 
-      s : Rattle.sim_core.proofs.Sees.Sees here there
+      s : Sees here there
       s = sees u sound c w inv k q x state action b place
 
       late : b.s.late ≡ Some at

@@ -10,7 +10,7 @@ use Rattle.word_ops.specs.declared.name.Name.{Name}
 use Rattle.word_ops.specs.declared.ticket.Ticket.{Ticket}
 use Rattle.world_model.specs.Action.{Action}
 use Rattle.world_model.specs.Sight.{Sight, place_after}
-use Rattle.world_model.specs.World.{Setting, Item, Live, Strand, World, is_empty, is_clear, strand_of, value_of, children_at}
+use Rattle.world_model.specs.World.{value_in, Strand, World, is_empty, is_clear, strand_of, value_of, children_at}
 use Rattle.world_model.specs.Effect.{sight_of}
 use Rattle.world_model.specs.Step as world
 use Rattle.world_model.specs.Step.{Refusal, done_by, refusal_of, refused_as_late, refused_as_bad, refused_as_outside, used_at_once, step}
@@ -138,7 +138,7 @@ module _ (u : Setup) (sound : is_sound u.code ≡ true) (c : Core) (w : World) (
   value-relative : (child : Name) → is_some (result_by (relatives_in w child)) ≡ is_some (value_of w child)
   value-relative child = go (strand_of w child)
     where
-      go : (o : Option Strand) → is_some (result_by (relative o)) ≡ is_some (option_and_then (λ s. Rattle.world_model.specs.World.value_in s.status) o)
+      go : (o : Option Strand) → is_some (result_by (relative o)) ≡ is_some (option_and_then (λ s. value_in s.status) o)
       go None = refl
       go (Some s) = refl
 

@@ -17,7 +17,7 @@ use Rattle.nodelet_core.specs.Machine.{Packet, machine_of}
 use Rattle.sim_core.specs.Core.{Core, setting_of}
 use Rattle.sim_core.specs.Agreement.{SharesAll}
 use Rattle.sim_core.specs.Laws.{KeepsMainValue}
-use Rattle.sim_core.proofs.Links.{part-kept, with_first, parts, parts-sent, sent, sent-none, plus, plus-none, cut-same, parts-run, parts-take}
+use Rattle.sim_core.proofs.Links.{cut, part-kept, with_first, parts, parts-sent, sent-none, plus-none, cut-same, parts-run, parts-take}
 use Rattle.sim_core.proofs.Views.{View, view, arrival_of, item_of, ack_of, result_of, after_run, after_take, run_view, behind, view-after_run, view-after_take, sending-nothing, behind-other}
 use Rattle.sim_core.proofs.Invariant.{Known, Relative, relative, result_by, Results, Returns, Kin, results_in, returns_in, relatives_in, IsFresh, Orphans, Invariant}
 
@@ -184,6 +184,6 @@ module _ (u : Setup) (c : Core) (k stamp : ℕ) (event : ℕ → NodeEvent) (raw
     next_number = part-kept (λ (v : Node). v.next_number) c.nodes k (stamped (machine_of u) k stamp event raw).node still.next_number;
     main_value = part-kept (λ (v : Node). v.main_value) c.nodes k (stamped (machine_of u) k stamp event raw).node still.main_value;
     returns = λ a b p d o. parts-take (result_of p d o) c.links origin k left (stamped (machine_of u) k stamp event raw).sent a b
-        ∙ plus-none (Rattle.sim_core.proofs.Links.cut (λ x y. parts (result_of p d o) (c.links x y)) origin k (parts (result_of p d o) left)) k _ (sent_back p d o) a b
+        ∙ plus-none (cut (λ x y. parts (result_of p d o) (c.links x y)) origin k (parts (result_of p d o) left)) k _ (sent_back p d o) a b
         ∙ cut-same (λ x y. parts (result_of p d o) (c.links x y)) origin k _ (ap (parts (result_of p d o)) is ∙ ap (λ y. with_first y (parts (result_of p d o) left)) (back p d o)) a b;
   }

@@ -41,3 +41,5 @@ pub mod Events
 pub mod Beginning
 pub mod Agreeing
 pub mod EventsAreRun
+pub mod Apart
+pub mod Census

@@ -51,7 +51,7 @@ not_bad n a e = go (is_valid a n) e
     go true f = refl
     go false f = absurd cc
 
-place_within : (n : ℕ) (s : Sight) (action : Action) → 1 ≤ n → s.here < n → s.home < n → is_bad n action ≡ false → place_after n s action < n
+pub place_within : (n : ℕ) (s : Sight) (action : Action) → 1 ≤ n → s.here < n → s.home < n → is_bad n action ≡ false → place_after n s action < n
 place_within n s (Load at a) some here home good = owner_of-below a s.here n some (not_bad n a good) here
 place_within n s (Fetch at f a) some here home good = owner_of-below a s.here n some (not_bad n a good) here
 place_within n s (Move at a) some here home good = owner_of-below a s.here n some (not_bad n a good) here

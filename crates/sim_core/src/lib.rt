@@ -4,5 +4,5 @@
 
 mod laws;
 
-pub use laws::law_events_are_run;
+pub use laws::{law_census_is_live, law_events_are_run};
 pub use merge_law::Event;
