@@ -24,3 +24,4 @@ pub mod TreeSamples
 mod CheckExamples
 mod LoweringExamples
 mod CanonicalExamples
+mod FormExamples

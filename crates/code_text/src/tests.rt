@@ -70,8 +70,12 @@ fn verified_code_is_written(rt: HostRuntime) -> Result<(), AllocError> {
     Ok(())
 }
 
+const BARE: &str = "emu-code 1\nglobals 0\nreplicated 0\nformats 0\n";
+
+const ONE_MAIN: &str = "functions 1\nmain 0\nfunction params 0 slots 0 height 0 spawns 0 length";
+
 #[test]
-fn the_first_broken_line_and_its_kind(rt: HostRuntime) -> Result<(), AllocError> {
+fn the_first_broken_line_of_a_head_and_its_kind(rt: HostRuntime) -> Result<(), AllocError> {
     let alloc = rt.alloc();
     for (bytes, line, kind) in [
         ("", 1, CodeKind::BadHead),
@@ -106,8 +110,12 @@ fn the_first_broken_line_and_its_kind(rt: HostRuntime) -> Result<(), AllocError>
             "{bytes}"
         );
     }
-    let head = "emu-code 1\nglobals 0\nreplicated 0\nformats 0\n";
-    let main = "functions 1\nmain 0\nfunction params 0 slots 0 height 0 spawns 0 length";
+    Ok(())
+}
+
+#[test]
+fn the_first_broken_line_of_functions_and_its_kind(rt: HostRuntime) -> Result<(), AllocError> {
+    let alloc = rt.alloc();
     for (rest, line, kind) in [
         ("functions +1\n", 5, CodeKind::BadCount),
         ("functions 1\nmain", 6, CodeKind::BadCount),
@@ -119,13 +127,19 @@ fn the_first_broken_line_and_its_kind(rt: HostRuntime) -> Result<(), AllocError>
         ("functions 0\nmain 0\nend", 7, CodeKind::BadEnd),
         ("functions 0\nmain 0\nend\n\n", 8, CodeKind::BadEnd),
     ] {
-        let bytes = format!(in alloc; "{head}{rest}")?;
+        let bytes = format!(in alloc; "{BARE}{rest}")?;
         let refusal = read(alloc, bytes.as_bytes()).err();
         assert!(rt;
             refusal == Some(CodeRefusal::Fault(CodeFault { line, kind })),
             "{rest}"
         );
     }
+    Ok(())
+}
+
+#[test]
+fn the_first_broken_line_of_a_body_and_its_kind(rt: HostRuntime) -> Result<(), AllocError> {
+    let alloc = rt.alloc();
     for (rest, line, kind) in [
         ("1\n1:1 push -0\nend\n", 8, CodeKind::BadInstr),
         (
@@ -138,7 +152,7 @@ fn the_first_broken_line_and_its_kind(rt: HostRuntime) -> Result<(), AllocError>
         ("1\n1:1  turn\nend\n", 8, CodeKind::BadInstr),
         ("0\n1:1 turn\nend\n", 8, CodeKind::BadEnd),
     ] {
-        let bytes = format!(in alloc; "{head}{main} {rest}")?;
+        let bytes = format!(in alloc; "{BARE}{ONE_MAIN} {rest}")?;
         let refusal = read(alloc, bytes.as_bytes()).err();
         assert!(rt;
             refusal == Some(CodeRefusal::Fault(CodeFault { line, kind })),

@@ -1,3 +1,4 @@
 pub mod Digits
 mod OperatorExamples
 mod TextExamples
+mod ComparisonExamples

@@ -60,9 +60,6 @@ blocks_of_three_words_are_refused = refl
 the_views_of_blocks : map block_view (pos 1 ∷ pos 2 ∷ pos 1048576 ∷ pos 2097152 ∷ pos 0 ∷ negsuc 0 ∷ []) ≡ Some 0 ∷ Some 1 ∷ Some 20 ∷ None ∷ None ∷ None ∷ []
 the_views_of_blocks = refl
 
-no_blocks_are_refused : answers_of main (after (Blocked (pos 0) (pos 4))) ≡ Some ((pos 0 ∷ []) ∷ [])
-no_blocks_are_refused = refl
-
 a_product_does_not_wrap : answers_of main (after (Blocked (pos 17592186044417) (pos 1048576))) ≡ Some ((pos 0 ∷ []) ∷ [])
 a_product_does_not_wrap = refl
 

@@ -44,7 +44,7 @@ not_bad n a e = go (is_valid a n) e
     go false f = absurd cc
 
 -- the place after an action that is not bad
-place_within : (n : ℕ) (s : Sight) (action : Action) → 1 ≤ n → s.here < n → s.home < n → is_bad n action ≡ false → place_after n s action < n
+pub place_within : (n : ℕ) (s : Sight) (action : Action) → 1 ≤ n → s.here < n → s.home < n → is_bad n action ≡ false → place_after n s action < n
 place_within n s Turn some here home good = here
 place_within n s (Load at a) some here home good = owner_of-below a s.here n some (not_bad n a good) here
 place_within n s (Issue at op a v) some here home good = here

@@ -9,7 +9,7 @@ use Rattle.world_model.specs.Action.{Turn, Alloc, Striped, Issue, Load, Move, Wh
 use Rattle.world_model.specs.Meaning.{Meaning, Acts, make, word_of}
 use Rattle.world_model.specs.World.{Live, Ended, Trapped}
 use Rattle.world_model.specs.Run.{run_of, end_of}
-use Rattle.world_model.proofs.Samples.{at, name, main, ends, program, loose, act, spawn, acts, apply, status_of, place_of, answers_of}
+use Rattle.world_model.proofs.Samples.{at, name, main, ends, program, loose, act, spawn, acts, apply, status_of}
 
 abbrev element : ℕ → ℤ
 element i = pos (8 + i)
@@ -47,11 +47,6 @@ an_end_waits_for_its_stores = refl
 
 a_sync_waits_for_every_child : run_of (loose race) (both_stored ++ apply first 3 ∷ act first ∷ act main ∷ []) ≡ None
 a_sync_waits_for_every_child = refl
-
-a_sync_answers_in_spawn_order :
-    answers_of main (run_of (loose race) (both_stored ++ apply first 3 ∷ apply second 3 ∷ act second ∷ act first ∷ act main ∷ []))
-    ≡ Some ([] ∷ (pos 8 ∷ []) ∷ [] ∷ [] ∷ (pos 0 ∷ pos 0 ∷ []) ∷ [])
-a_sync_answers_in_spawn_order = refl
 
 a_spawn_names_its_child : run_of (loose race) (acts 3 main) ≡ None
 a_spawn_names_its_child = refl
@@ -115,9 +110,6 @@ hinted address = program
 
 a_child_is_born_at_its_hint's_owner : status_of first (run_of (loose (hinted (element 6))) (spawn main first ∷ acts 2 first)) ≡ Some (Ended (pos 6))
 a_child_is_born_at_its_hint's_owner = refl
-
-a_replicated_hint_is_the_parent's_place : place_of first (run_of (loose (hinted (pos 34084860461056))) (spawn main first ∷ [])) ≡ Some 0
-a_replicated_hint_is_the_parent's_place = refl
 
 a_bad_hint_traps : status_of main (run_of (loose (hinted (pos 0))) (act main ∷ [])) ≡ Some (Trapped trap.BadAddress (at 5))
 a_bad_hint_traps = refl

@@ -111,9 +111,6 @@ what_is_pending_first_is_the_grant = refl
 a_late_strand's_own_trap_keeps_its_kind : end_of (checked (far_store (λ _. Trap (at 60) trap.Divide ∷ []))) (refused ++ act main ∷ []) [] ≡ Some (ending.Trap trap.Divide (at 60) main)
 a_late_strand's_own_trap_keeps_its_kind = refl
 
-a_late_strand's_bad_address_too : end_of (checked (far_store (then_ends (Load (at 60) (pos 0))))) (refused ++ act main ∷ []) [] ≡ Some (ending.Trap trap.BadAddress (at 60) main)
-a_late_strand's_bad_address_too = refl
-
 -- ---- of two refused stores the lesser place is late
 
 abbrev two_stores : Meaning

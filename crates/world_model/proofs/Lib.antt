@@ -20,3 +20,10 @@ pub mod Settling
 pub mod Upgrades
 mod CellExamples
 mod MeaningExamples
+mod WaitingExamples
+mod LateExamples
+mod ActivationExamples
+mod PlaceExamples
+mod OutcomeExamples
+mod GrantOrderExamples
+mod CountingExamples
