@@ -18,6 +18,3 @@ mod syntax_laws;
 
 pub use parsing::parse;
 pub use syntax_laws::{law_not_both, law_one_fault, law_one_of_both, law_one_tree};
-
-#[cfg(test)]
-mod tests;

@@ -34,8 +34,3 @@ mod walk;
 
 pub use file::tree_fault;
 pub use programs::check;
-
-#[cfg(test)]
-mod program_tests;
-#[cfg(test)]
-mod tests;

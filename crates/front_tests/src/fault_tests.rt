@@ -1,21 +1,21 @@
-use crate::tree_fault;
 use cilk_ast::{FaultKind, Item, Kind, TExpr, TStmt, TValue, TextFault, Tree};
+use cilk_types::tree_fault;
 use std::alloc::{AllocError, Global};
 use std::mem::ManuallyDrop;
 use word_ops::{Box, List, Pos};
 
-pub(crate) fn at(column: u32) -> Pos {
+fn at(column: u32) -> Pos {
     Pos { line: 1, column }
 }
 
-pub(crate) fn text(alloc: Global, bytes: &[u8]) -> Result<List<u8>, AllocError> {
+fn text(alloc: Global, bytes: &[u8]) -> Result<List<u8>, AllocError> {
     let mut text = List::new(alloc);
     text.extend_from_slice(bytes)?;
     Ok(text)
 }
 
 /// `int main() { .. }`
-pub(crate) fn main_of(alloc: Global, body: List<TStmt>) -> Result<Item, AllocError> {
+fn main_of(alloc: Global, body: List<TStmt>) -> Result<Item, AllocError> {
     Ok(Item::Function {
         pos: at(1),
         result: Kind::Int,
@@ -27,7 +27,7 @@ pub(crate) fn main_of(alloc: Global, body: List<TStmt>) -> Result<Item, AllocErr
 }
 
 /// `int main() { .. }` with one statement, which ends at a column.
-pub(crate) fn main_file(alloc: Global, statement: TStmt, end: u32) -> Result<Tree, AllocError> {
+fn main_file(alloc: Global, statement: TStmt, end: u32) -> Result<Tree, AllocError> {
     let mut body = List::new(alloc);
     body.add(statement)?;
     let mut items = List::new(alloc);
@@ -38,14 +38,14 @@ pub(crate) fn main_file(alloc: Global, statement: TStmt, end: u32) -> Result<Tre
     })
 }
 
-pub(crate) fn variable(alloc: Global, column: u32, name: &[u8]) -> Result<TExpr, AllocError> {
+fn variable(alloc: Global, column: u32, name: &[u8]) -> Result<TExpr, AllocError> {
     Ok(TExpr::Var {
         pos: at(column),
         name: text(alloc, name)?,
     })
 }
 
-pub(crate) fn number(column: u32, value: i64) -> TExpr {
+fn number(column: u32, value: i64) -> TExpr {
     TExpr::Number {
         pos: at(column),
         value,
@@ -53,12 +53,7 @@ pub(crate) fn number(column: u32, value: i64) -> TExpr {
 }
 
 /// `long name = value;`
-pub(crate) fn local(
-    alloc: Global,
-    column: u32,
-    name: &[u8],
-    value: i64,
-) -> Result<TStmt, AllocError> {
+fn local(alloc: Global, column: u32, name: &[u8], value: i64) -> Result<TStmt, AllocError> {
     Ok(TStmt::Local {
         pos: at(column),
         kind: Kind::Long,
@@ -68,7 +63,7 @@ pub(crate) fn local(
 }
 
 /// `cilk_for (long name = 0; name < 2; name++) body`
-pub(crate) fn each(alloc: Global, name: &[u8], body: TStmt) -> Result<TStmt, AllocError> {
+fn each(alloc: Global, name: &[u8], body: TStmt) -> Result<TStmt, AllocError> {
     Ok(TStmt::CilkFor {
         pos: at(14),
         name: text(alloc, name)?,

@@ -1,6 +1,6 @@
-use super::parse;
 use cilk_ast::{FaultKind, TextFault, TextRefusal};
 use cilk_lexer::lex;
+use cilk_parser::parse;
 use std::alloc::{AllocError, Global};
 use word_ops::Pos;
 

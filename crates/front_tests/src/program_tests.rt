@@ -1,29 +1,39 @@
-use crate::programs::lower;
-use crate::tests::{at, each, local, main_file, main_of, text, variable};
-use crate::tree_fault;
-use cilk_ast::{Expr, Function, Item, Kind, Program, Stmt, TStmt, TValue, Tree};
-use std::alloc::{AllocError, Global};
-use word_ops::List;
+ghost use Rattle.std.specs.Prelude.{◌≤◌, length};
 
-/// `cilk_for (i) cilk_for (j) cilk_for (k) { i; j; }`
-fn nest(alloc: Global) -> Result<TStmt, AllocError> {
-    let mut names = List::new(alloc);
-    names.add(TStmt::Eval(variable(alloc, 14, b"i")?))?;
-    names.add(TStmt::Eval(variable(alloc, 14, b"j")?))?;
-    let innermost = each(alloc, b"k", TStmt::Block(names))?;
-    let inner = each(alloc, b"j", innermost)?;
-    each(alloc, b"i", inner)
+use cilk_ast::{Expr, Function, Program, Stmt, TextRefusal};
+use cilk_lexer::lex;
+use cilk_parser::parse;
+use cilk_types::check;
+use std::alloc::{AllocError, Global};
+use word_ops::Pos;
+
+/// The program of a text; none where a rule is broken.
+fn program_of(alloc: Global, text: &[u8]) -> Result<Option<Program>, AllocError> {
+    if text.len() > 1_048_576 {
+        return Ok(None);
+    }
+    match compiled(alloc, text) {
+        Ok(program) => Ok(Some(program)),
+        Err(TextRefusal::Fault(_)) => Ok(None),
+        Err(TextRefusal::OutOfMemory) => Err(AllocError),
+    }
 }
 
-/// The program of a tree in which no rule is broken.
-fn program_of(alloc: Global, tree: &Tree) -> Result<Option<Program>, AllocError> {
-    match tree_fault(alloc, tree)? {
-        None => {
-            let program = lower(alloc, tree)?;
-            Ok(Some(program))
-        }
-        Some(_) => Ok(None),
+fn compiled(alloc: Global, text: &[u8]) -> Result<Program, TextRefusal>
+    requires { length text.now ≤ 1048576 }
+{
+    let tokens = match lex(alloc, text) {
+        Ok(tokens) => tokens,
+        Err(refusal) => return Err(refusal),
+    };
+    match parse(alloc, text, &tokens) {
+        Ok(tree) => check(alloc, &tree),
+        Err(refusal) => Err(refusal),
     }
+}
+
+fn at(column: u32) -> Pos {
+    Pos { line: 1, column }
 }
 
 /// A function is named for main, has so many parameters and slots, and a body that spawns or not.
@@ -51,7 +61,7 @@ fn reads(body: &[Stmt], first: u32, second: u32) -> bool {
     }
 }
 
-/// The functions of `nest`: the last one reads its copies of `i` and `j`.
+/// The functions of three nested bodies: the last one reads its copies of `i` and `j`.
 fn are_nested(functions: &[Function]) -> bool {
     match functions {
         [main, outer, inner, last] => {
@@ -67,38 +77,14 @@ fn are_nested(functions: &[Function]) -> bool {
 
 #[test]
 fn bodies_in_bodies_get_copies(rt: HostRuntime) -> Result<(), AllocError> {
-    let alloc = rt.alloc();
-    let tree = main_file(alloc, nest(alloc)?, 30)?;
-    let good = match program_of(alloc, &tree)? {
+    let text =
+        b"int main() { cilk_for (long i = 0; i < 2; i++) cilk_for (long j = 0; j < 2; j++) cilk_for (long k = 0; k < 2; k++) { i; j; } }";
+    let good = match program_of(rt.alloc(), text)? {
         Some(program) => program.main == 0 && are_nested(program.functions.as_slice()),
         None => false,
     };
     assert!(rt; good);
     Ok(())
-}
-
-/// `long g; int main() { long x = 5; g = x; return x; }`
-fn global_and_local(alloc: Global) -> Result<Tree, AllocError> {
-    let mut body = List::new(alloc);
-    body.add(local(alloc, 27, b"x", 5)?)?;
-    body.add(TStmt::Assign {
-        pos: at(36),
-        left: variable(alloc, 34, b"g")?,
-        value: TValue::Plain(variable(alloc, 38, b"x")?),
-    })?;
-    body.add(TStmt::Return {
-        pos: at(41),
-        value: Some(variable(alloc, 48, b"x")?),
-    })?;
-    let mut items = List::new(alloc);
-    items.add(Item::Global {
-        pos: at(6),
-        name: text(alloc, b"g")?,
-        kind: Kind::Long,
-        replicated: false,
-    })?;
-    items.add(main_of(alloc, body)?)?;
-    Ok(Tree { items, end: at(52) })
 }
 
 /// The statements of its `main`; the first plain global is the first word of view 32.
@@ -129,9 +115,8 @@ fn stores_and_returns(body: &[Stmt]) -> bool {
 
 #[test]
 fn a_global_is_a_word_and_a_local_a_slot(rt: HostRuntime) -> Result<(), AllocError> {
-    let alloc = rt.alloc();
-    let tree = global_and_local(alloc)?;
-    let program = program_of(alloc, &tree)?;
+    let text = b"long g; int main() { long x = 5; g = x; return x; }";
+    let program = program_of(rt.alloc(), text)?;
     let good = match &program {
         Some(program) => match program.functions.as_slice() {
             [main] => {
@@ -147,19 +132,6 @@ fn a_global_is_a_word_and_a_local_a_slot(rt: HostRuntime) -> Result<(), AllocErr
     };
     assert!(rt; good);
     Ok(())
-}
-
-/// `int main() { long s = 7; cilk_for (long i = 0; i < 2; i++) { i; s; } }`
-fn copied(alloc: Global) -> Result<Tree, AllocError> {
-    let mut names = List::new(alloc);
-    names.add(TStmt::Eval(variable(alloc, 14, b"i")?))?;
-    names.add(TStmt::Eval(variable(alloc, 14, b"s")?))?;
-    let mut body = List::new(alloc);
-    body.add(local(alloc, 19, b"s", 7)?)?;
-    body.add(each(alloc, b"i", TStmt::Block(names))?)?;
-    let mut items = List::new(alloc);
-    items.add(main_of(alloc, body)?)?;
-    Ok(Tree { items, end: at(72) })
 }
 
 /// The statements of its `main`, whose local goes to the body.
@@ -180,7 +152,7 @@ fn hands_on(body: &[Stmt]) -> bool {
         ] => {
             *slot == 0
                 && *value == 7
-                && *pos == at(14)
+                && *pos == at(41)
                 && *low == 0
                 && *high == 2
                 && *function == 1
@@ -192,9 +164,8 @@ fn hands_on(body: &[Stmt]) -> bool {
 
 #[test]
 fn a_body_is_a_function_behind_main(rt: HostRuntime) -> Result<(), AllocError> {
-    let alloc = rt.alloc();
-    let tree = copied(alloc)?;
-    let program = program_of(alloc, &tree)?;
+    let text = b"int main() { long s = 7; cilk_for (long i = 0; i < 2; i++) { i; s; } }";
+    let program = program_of(rt.alloc(), text)?;
     let good = match &program {
         Some(program) => match program.functions.as_slice() {
             [main, body] => {
