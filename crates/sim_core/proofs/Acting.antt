@@ -196,14 +196,13 @@ module _ (u : Setup) (sound : is_sound u.code ≡ true) (c : Core) (w : World) (
       by true = refl
       by false = refl
 
-  -- an action that is done here is done in the world, or refused there as it is here
-  pub acts_here : (child : Option Name) (free : Bool) → IsDone n u.turns here action free →
-      step (setting_of u) w (Act q child) ≡ done_by (setting_of u) w q b.s child action (option_map (refusal_at k OutOfBounds) (outside u k (c.nodes k) action))
-  acts_here child free d = step_is child _ (or_right (is_bad n action) _ i.ready) (
+  -- an action that is done here is refused in the world as it is here
+  pub refused_here : (free : Bool) → IsDone n u.turns here action free → refusal_of (setting_of u) w b.s action ≡ option_map (refusal_at k OutOfBounds) (outside u k (c.nodes k) action)
+  refused_here free d =
       ap (λ t. option_or (if t then Some (refusal_at b.s.place BadAddress (pos_of action)) else None) later) d.good
       ∙ ap (λ o. option_or o (refused_as_outside (setting_of u) w action (used_at_once n b.s.place action))) (on_time i.prompt)
       ∙ ap (refused_as_outside (setting_of u) w action) i.used
-      ∙ sym (outside_by (used_at_once n k action) (used_here n here action d.stays_here)))
+      ∙ sym (outside_by (used_at_once n k action) (used_here n here action d.stays_here))
     where
       i : InWorld
       i = in_world free d
@@ -219,20 +218,29 @@ module _ (u : Setup) (sound : is_sound u.code ≡ true) (c : Core) (w : World) (
       on_time (inl none) = ap (λ o. if is_leaving n there action then option_map (refusal_at b.s.place OutOfBounds) o else None) none ∙ leaves (is_leaving n there action)
       on_time (inr stays) = ap (λ t. if t then option_map (refusal_at b.s.place OutOfBounds) b.s.late else None) stays
 
+  -- it is done in the world, or refused there
+  pub acts_here : (child : Option Name) (free : Bool) → IsDone n u.turns here action free →
+      step (setting_of u) w (Act q child) ≡ done_by (setting_of u) w q b.s child action (option_map (refusal_at k OutOfBounds) (outside u k (c.nodes k) action))
+  acts_here child free d = step_is child _ (or_right (is_bad n action) _ (in_world free d).ready) (refused_here free d)
+
   -- a bad action is refused in the world too
-  pub bad_there : is_bad n action ≡ true → step (setting_of u) w (Act q None) ≡ Some (with_strand w q (with_trap b.s b.s.place BadAddress (pos_of action)))
-  bad_there bad = step_is None (Some (refusal_at b.s.place BadAddress (pos_of action))) (or_left _ _ bad)
-      (ap (λ t. option_or (if t then Some (refusal_at b.s.place BadAddress (pos_of action)) else None) later) bad)
+  pub bad_refused : is_bad n action ≡ true → refusal_of (setting_of u) w b.s action ≡ Some (refusal_at b.s.place BadAddress (pos_of action))
+  bad_refused bad = ap (λ t. option_or (if t then Some (refusal_at b.s.place BadAddress (pos_of action)) else None) later) bad
     where
       later : Option Refusal
       later = option_or (refused_as_late (setting_of u) w b.s action) (refused_as_outside (setting_of u) w action (used_at_once n b.s.place action))
 
+  pub bad_there : is_bad n action ≡ true → step (setting_of u) w (Act q None) ≡ Some (with_strand w q (with_trap b.s b.s.place BadAddress (pos_of action)))
+  bad_there bad = step_is None (Some (refusal_at b.s.place BadAddress (pos_of action))) (or_left _ _ bad) (bad_refused bad)
+
   -- and so is a late strand that would leave
-  pub late_there : (at : Pos) → IsLate n u.turns here action at → step (setting_of u) w (Act q None) ≡ Some (with_strand w q (with_trap b.s b.s.place OutOfBounds at))
-  late_there at l = step_is None (Some (refusal_at b.s.place OutOfBounds at)) (or_right (is_bad n action) _ ready)
-      (ap (λ t. option_or (if t then Some (refusal_at b.s.place BadAddress (pos_of action)) else None) later) l.good
-      ∙ ap (λ t. option_or (if t then option_map (refusal_at b.s.place OutOfBounds) b.s.late else None) outside_there) leaving
-      ∙ ap (λ o. option_or (option_map (refusal_at b.s.place OutOfBounds) o) outside_there) late)
+  late_refusal : (at : Pos) → IsLate n u.turns here action at → (is_ready n u.turns there action ≡ true) × (refusal_of (setting_of u) w b.s action ≡ Some (refusal_at b.s.place OutOfBounds at))
+  late_refusal at l = (
+    or_right (is_bad n action) _ ready,
+    ap (λ t. option_or (if t then Some (refusal_at b.s.place BadAddress (pos_of action)) else None) later) l.good
+        ∙ ap (λ t. option_or (if t then option_map (refusal_at b.s.place OutOfBounds) b.s.late else None) outside_there) leaving
+        ∙ ap (λ o. option_or (option_map (refusal_at b.s.place OutOfBounds) o) outside_there) late,
+  )
     where
       outside_there : Option Refusal
       outside_there = refused_as_outside (setting_of u) w action (used_at_once n b.s.place action)
@@ -264,3 +272,9 @@ module _ (u : Setup) (sound : is_sound u.code ≡ true) (c : Core) (w : World) (
           by : (t : Bool) → (place_after n there action == there.here) ≡ t → can_act n u.turns there action ≡ true
           by true e = can_act-same n u.turns here there s action (place_after-same n here there s action ∙ eqb-true _ _ e ∙ sym s.here) l.ready
           by false e = moves_ready n u.turns there action (s.clear clear) (ap is_some late) e
+
+  pub late_refused : (at : Pos) → IsLate n u.turns here action at → refusal_of (setting_of u) w b.s action ≡ Some (refusal_at b.s.place OutOfBounds at)
+  late_refused at l = (late_refusal at l).1
+
+  pub late_there : (at : Pos) → IsLate n u.turns here action at → step (setting_of u) w (Act q None) ≡ Some (with_strand w q (with_trap b.s b.s.place OutOfBounds at))
+  late_there at l = let r = late_refusal at l in step_is None (Some (refusal_at b.s.place OutOfBounds at)) r.0 r.1

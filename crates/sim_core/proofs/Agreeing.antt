@@ -15,7 +15,7 @@ use Rattle.nodelet_core.specs.Contexts.{Body, Arrival, Issued, Ack, Returned}
 use Rattle.nodelet_core.specs.Nodes.{Setup}
 use Rattle.nodelet_core.specs.Runs.{action_in}
 use Rattle.nodelet_core.specs.Machine.{Packet}
-use Rattle.sim_core.specs.Core.{Core}
+use Rattle.sim_core.specs.Core.{Core, setting_of}
 use Rattle.sim_core.specs.Agreement.{due_here, ContextsAreOf, pending_in, PendingTravels}
 use Rattle.sim_core.proofs.Links.{with_first, parts}
 use Rattle.sim_core.proofs.Views.{view, item_of}
@@ -34,7 +34,7 @@ always_due u sound s state is = by (due u.code state) refl
     by (stops action) e = (action, refl)
 
 module _ (u : Setup) (sound : is_sound u.code ≡ true) (c : Core) (w : World) (inv : Invariant u c w) where
-  pub contexts_are_of : ContextsAreOf u c w
+  pub contexts_are_of : ContextsAreOf u (setting_of u) c w
   contexts_are_of k name x found = (
     record {
       strand = p.s;

@@ -35,10 +35,10 @@ use Rattle.sim_core.proofs.Beginning.{starts}
 
 -- ---- what lists contain
 
-contains-first : {A : Type 0} (x y : A) (xs : List A) → y ≡ x → Contains (y ∷ xs) x
+pub contains-first : {A : Type 0} (x y : A) (xs : List A) → y ≡ x → Contains (y ∷ xs) x
 contains-first x y xs e = (0, omega arith, e)
 
-contains-later : {A : Type 0} (x y : A) (xs : List A) → Contains xs x → Contains (y ∷ xs) x
+pub contains-later : {A : Type 0} (x y : A) (xs : List A) → Contains xs x → Contains (y ∷ xs) x
 contains-later x y xs c = (suc c.0, (let z = c.1 in omega arith), c.2)
 
 contains-cases : {A : Type 0} (x y : A) (xs : List A) → Contains (y ∷ xs) x → (y ≡ x) ⊎ Contains xs x
@@ -71,7 +71,7 @@ below-contains f (suc n) x c = ⊎_elim
 
 -- ---- names of contexts
 
-abbrev names : List Context → List Name
+abbrev pub names : List Context → List Name
 names xs = map (λ x. x.name) xs
 
 names-contain : (q : Name) (xs : List Context) (x : Context) → context_of q xs ≡ Some x → Contains (names xs) q
@@ -82,7 +82,7 @@ names-contain q (y ∷ ys) x e = go (λ h. names-contain q ys x h) (same_name q 
     go ih true f g = contains-first q y.name (names ys) (sym (same_name_is q y.name f))
     go ih false f g = contains-later q y.name (names ys) (ih g)
 
-contained-name : (q : Name) (xs : List Context) → Contains (names xs) q → (x : Context) × (context_of q xs ≡ Some x)
+pub contained-name : (q : Name) (xs : List Context) → Contains (names xs) q → (x : Context) × (context_of q xs ≡ Some x)
 contained-name q [] c = contains-none q c
 contained-name q (y ∷ ys) c = go (λ h. contained-name q ys h) (same_name q y.name) refl
   where
@@ -95,7 +95,7 @@ contained-name q (y ∷ ys) c = go (λ h. contained-name q ys h) (same_name q y.
 
 -- ---- names of travellers
 
-abbrev travellers : List Packet → List Name
+abbrev pub travellers : List Packet → List Name
 travellers ps = filter_map (λ p. traveller p.body) ps
 
 travellers-contain : (q : Name) (ps : List Packet) (x : Context) (more : List Context) → parts (arrival_of q) ps ≡ x ∷ more → Contains (travellers ps) q
@@ -112,7 +112,7 @@ travellers-contain q (p ∷ ps) x more e = by p.body (λ h. travellers-contain q
     by (Ack r late) ih f = ih f
     by (Returned t value) ih f = ih f
 
-contained-traveller : (q : Name) (ps : List Packet) → Contains (travellers ps) q → (x : Context) × (more : List Context) × (parts (arrival_of q) ps ≡ x ∷ more)
+pub contained-traveller : (q : Name) (ps : List Packet) → Contains (travellers ps) q → (x : Context) × (more : List Context) × (parts (arrival_of q) ps ≡ x ∷ more)
 contained-traveller q [] c = contains-none q c
 contained-traveller q (p ∷ ps) c = by p.body (λ h. contained-traveller q ps h) c
   where

@@ -12,7 +12,7 @@ use Rattle.sim_core.proofs.Samples.{function, setup, name, main, steps, counts, 
 
 -- ---- two stores to a word of nodelet 2, and a load of it
 
-abbrev stores : Setup
+abbrev pub stores : Setup
 stores = setup Loose (function 0 0 3 false
     (by.Turn ∷ by.Push (pos 37383395344384) ∷ by.Dup ∷ by.Push (pos 1) ∷ by.Post Store ∷ by.Dup ∷ by.Push (pos 2) ∷ by.Post Store ∷ by.Load ∷ by.Return ∷ []) ∷ [])
 
@@ -29,7 +29,7 @@ all_taken = Take 0 2 ∷ Take 0 2 ∷ Take 2 0 ∷ Take 2 0 ∷ []
 abbrev loaded : List Event
 loaded = Run 0 main ∷ Take 0 2 ∷ Run 2 main ∷ Run 2 main ∷ []
 
-abbrev all_events : List Event
+abbrev pub all_events : List Event
 all_events = both_issued ++ all_taken ++ loaded
 
 main_ends_at_nodelet_2 : main_value stores all_events 2 ≡ Some (pos 2)

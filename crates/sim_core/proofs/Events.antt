@@ -1,28 +1,27 @@
 -- Every legal event keeps the invariant, and so do events one after the other.
-use Rattle.std.proofs.Common.{◌≡◌, ℕ, ◌+◌, ◌<◌, ◌≤◌, List, [], ◌∷◌, Option, Some, None, refl, ap, ◌∙◌, subst, arith, Bool, true, false, ◌&&◌, not, nat_lt, max, option_map, option_and_then}
+use Rattle.std.proofs.Common.{◌≡◌, ℕ, ◌<◌, ◌≤◌, List, [], ◌∷◌, Option, Some, None, refl, ap, ◌∙◌, subst, arith, Bool, true, false, ◌&&◌, not, nat_lt, option_map, option_and_then}
 use Rattle.std.specs.Prelude.{◌==◌}
 use Rattle.std.proofs.lemmas.Bool.Decides.{nat_tests}
-use Rattle.word_ops.specs.declared.name.Name.{Name}
 use Rattle.word_ops.specs.declared.step.Step.{Step}
 use Rattle.word_ops.specs.declared.step.NodeEvent.{NodeEvent}
 use Rattle.word_ops.specs.declared.step.NodeEvent.TheVariants as node
 use Rattle.merge_law.specs.declared.event.Event.{Event}
 use Rattle.merge_law.specs.declared.event.Event.TheVariants.{Run, Take}
-use Rattle.merge_law.specs.Machine.{Outcome, last_stamp, is_linked, stamped, run_at, take_at}
-use Rattle.merge_law.specs.Core.{Advance, After, Played, leaving, but_from, take_first, advance, core_after, after, told_first, play}
+use Rattle.merge_law.specs.Machine.{is_linked}
+use Rattle.merge_law.specs.Core.{After, Played, after, told_first, play}
 use Rattle.merge_law.specs.Merge.{steps_of}
-use Rattle.merge_law.proofs.Somes.{FromIf, FromMap, from_if, from_map, from_then, some_is, swapped}
+use Rattle.merge_law.proofs.Somes.{from_map, from_then, some_is, swapped}
 use Rattle.world_model.specs.World.{Operation, Grant, World}
 use Rattle.world_model.specs.Run.{run_from}
 use Rattle.threadlet_code.specs.Breaches.{is_sound}
 use Rattle.nodelet_core.specs.Contexts.{Body, Arrival, Issued, Ack, Returned}
 use Rattle.nodelet_core.specs.Nodes.{Setup, Node}
-use Rattle.nodelet_core.specs.Runs.{run}
 use Rattle.nodelet_core.specs.Takes.{take}
 use Rattle.nodelet_core.specs.Machine.{Packet, packet_of, machine_of}
 use Rattle.sim_core.specs.Core.{Core, setting_of}
 use Rattle.sim_core.proofs.Links.{with_first}
 use Rattle.sim_core.proofs.Views.{after_take}
+use Rattle.sim_core.proofs.Happening.{run_stamp, HasRun, take_stamp, HasTaken, happened}
 use Rattle.sim_core.proofs.Invariant.{Invariant}
 use Rattle.sim_core.proofs.Frames.{Kept, stepped}
 use Rattle.sim_core.proofs.Runs.{run_kept}
@@ -36,7 +35,7 @@ pub record Linked (n from k : ℕ) : Type 0 where
   pub inside : k < n
   pub back : is_linked n k from ≡ true
 
-linked_is : (n from k : ℕ) → is_linked n from k ≡ true → Linked n from k
+pub linked_is : (n from k : ℕ) → is_linked n from k ≡ true → Linked n from k
 linked_is n from k e = go (nat_lt from n) refl (nat_lt k n) refl (from == k) refl e
   where
     go : (r : Bool) → nat_lt from n ≡ r → (s : Bool) → nat_lt k n ≡ s → (t : Bool) → (from == k) ≡ t → (r && s && not t) ≡ true → Linked n from k
@@ -60,45 +59,15 @@ module _ (u : Setup) (sound : is_sound u.code ≡ true) (some : 1 ≤ u.nodelets
   take_kept c w inv from k linked stamp sent_at (Issued q (Operation op a word at)) left first event =
       let l = linked_is u.nodelets from k linked in operation_kept u c w inv from k l.back l.inside some stamp event sent_at q left op a word at first
 
-  run_event : (c : Core) (w : World) → Invariant u c w → (k : ℕ) (q : Name) (a : After Node Packet) → after (machine_of u) c (Run k q) ≡ Some a → KeptAfter w a
-  run_event c w inv k q a e =
-      let outer = from_map (core_after c k) (advance (machine_of u) (c.nodes k) (λ o. c.links o k) (Run k q)) a e in
-      let inner = from_if (nat_lt k u.nodelets) (option_map (leaving (λ o. c.links o k)) (run_at (machine_of u) k (c.nodes k) q)) outer.value outer.was in
-      let ran = from_map (leaving (λ o. c.links o k)) (run_at (machine_of u) k (c.nodes k) q) outer.value inner.was in
-      let in_time = from_if (nat_lt (c.nodes k).stamp last_stamp) (option_map (stamped (machine_of u) k ((c.nodes k).stamp + 1) (λ count. node.Run q count)) (run u k (c.nodes k) q)) ran.value ran.was in
-      let made = from_map (stamped (machine_of u) k ((c.nodes k).stamp + 1) (λ count. node.Run q count)) (run u k (c.nodes k) q) ran.value in_time.was in
-      subst (λ (y : After Node Packet). KeptAfter w y) outer.is
-      (subst (λ (y : Advance Node Packet). KeptAfter w (core_after c k y)) ran.is
-      (subst (λ (y : Outcome Node Packet). KeptAfter w (core_after c k (leaving (λ o. c.links o k) y))) made.is
-      (run_kept u sound some c w inv k (below k inner.test) q ((c.nodes k).stamp + 1) (λ count. node.Run q count) made.value made.was)))
-    where
-      below : (k : ℕ) → nat_lt k u.nodelets ≡ true → k < u.nodelets
-      below k f = grind (arith, nat_tests)
-
-  take_event : (c : Core) (w : World) → Invariant u c w → (from k : ℕ) (a : After Node Packet) → after (machine_of u) c (Take from k) ≡ Some a → KeptAfter w a
-  take_event c w inv from k a e = go (c.links from k) refl inner.was
-    where
-      outer : FromMap (core_after c k) (advance (machine_of u) (c.nodes k) (λ o. c.links o k) (Take from k)) a
-      outer = from_map (core_after c k) (advance (machine_of u) (c.nodes k) (λ o. c.links o k) (Take from k)) a e
-
-      inner : FromIf (is_linked u.nodelets from k) (take_first (machine_of u) k (c.nodes k) from (λ o. c.links o k) (c.links from k)) outer.value
-      inner = from_if (is_linked u.nodelets from k) (take_first (machine_of u) k (c.nodes k) from (λ o. c.links o k) (c.links from k)) outer.value outer.was
-
-      go : (l : List Packet) → c.links from k ≡ l → take_first (machine_of u) k (c.nodes k) from (λ o. c.links o k) l ≡ Some outer.value → KeptAfter w a
-      go [] f g = absurd cc
-      go (p ∷ left) f g =
-          let s : ℕ = max (c.nodes k).stamp p.stamp + 1 in
-          let took = from_map (leaving (but_from from left (λ o. c.links o k))) (take_at (machine_of u) k (c.nodes k) from p) outer.value g in
-          let in_time = from_if (nat_lt (c.nodes k).stamp last_stamp && nat_lt p.stamp last_stamp) (option_map (stamped (machine_of u) k s (λ _. node.Take from)) (Some (take u k (c.nodes k) from p.body))) took.value took.was in
-          let made = from_map (stamped (machine_of u) k s (λ _. node.Take from)) (Some (take u k (c.nodes k) from p.body)) took.value in_time.was in
-          subst (λ (y : After Node Packet). KeptAfter w y) outer.is
-          (subst (λ (y : Advance Node Packet). KeptAfter w (core_after c k y)) took.is
-          (subst (λ (y : Outcome Node Packet). KeptAfter w (core_after c k (leaving (but_from from left (λ o. c.links o k)) y))) (some_is _ _ in_time.was)
-          (take_kept c w inv from k inner.test s p.stamp p.body left f (λ _. node.Take from))))
-
   pub event_kept : (c : Core) (w : World) → Invariant u c w → (event : Event) (a : After Node Packet) → after (machine_of u) c event ≡ Some a → KeptAfter w a
-  event_kept c w inv (Run k q) a e = run_event c w inv k q a e
-  event_kept c w inv (Take from k) a e = take_event c w inv from k a e
+  event_kept c w inv (Run k q) a e =
+      let h : HasRun u c k q a = happened u c (Run k q) a e in
+      subst (λ (y : After Node Packet). KeptAfter w y) h.is
+      (run_kept u sound c w inv k h.inside q some (run_stamp c k) (λ count. node.Run q count) h.raw h.made)
+  event_kept c w inv (Take from k) a e =
+      let h : HasTaken u c from k a = happened u c (Take from k) a e in
+      subst (λ (y : After Node Packet). KeptAfter w y) h.is
+      (take_kept c w inv from k h.linked (take_stamp c k h.packet) h.packet.stamp h.packet.body h.rest h.first (λ _. node.Take from))
 
   -- ---- events that follow each other
 

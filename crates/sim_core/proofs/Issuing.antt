@@ -86,7 +86,7 @@ others-many n k item inside = total-same n (λ d. if d == k then 0 else 1) _ (λ
         (cases_lt k m)
 
 -- what counting leaves of a node
-counted-part : {A : Type 0} (f : Node → A) → ((k : ℕ) (y : Node) → f (node.posted_to k y) ≡ f y) → (ks : List ℕ) (v : Node) → f (for_each ks node.posted_to v) ≡ f v
+pub counted-part : {A : Type 0} (f : Node → A) → ((k : ℕ) (y : Node) → f (node.posted_to k y) ≡ f y) → (ks : List ℕ) (v : Node) → f (for_each ks node.posted_to v) ≡ f v
 counted-part f same [] v = refl
 counted-part f same (k ∷ ks) v = counted-part f same ks (node.posted_to k v) ∙ same k v
 

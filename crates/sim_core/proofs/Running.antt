@@ -1,10 +1,11 @@
--- Every run keeps the invariant.
-use Rattle.std.proofs.Common.{◌≡◌, ℕ, zero, suc, ◌<◌, ◌≤◌, inl, inr, List, Option, Some, None, refl, sym, ap, ◌∙◌, subst, arith, Bool, true, false, ⊎_elim, not, ℤ, nat_lt, option_map, IsTrue}
+-- Each way that a run can go keeps the invariant.
+use Rattle.std.proofs.Common.{◌≡◌, ℕ, suc, ◌<◌, ◌≤◌, inl, inr, List, Option, Some, None, refl, sym, ap, ◌∙◌, subst, arith, Bool, true, false, ⊎_elim, not, ℤ, nat_lt, option_map, IsTrue}
 use Rattle.std.specs.Prelude.{if◌then◌else◌, ◌==◌}
 use Rattle.std.proofs.lemmas.Bool.Decides.{eqb_tells, nat_tests}
 use Rattle.word_ops.specs.declared.name.Name.{Name}
 use Rattle.word_ops.specs.declared.place.Pos.{Pos}
 use Rattle.word_ops.specs.declared.ticket.Ticket.{Ticket}
+use Rattle.word_ops.specs.declared.step.Step.TheVariants.{Act}
 use Rattle.word_ops.specs.declared.step.NodeEvent.{NodeEvent}
 use Rattle.word_ops.specs.declared.ending.TrapKind.{TrapKind}
 use Rattle.word_ops.specs.declared.ending.TrapKind.TheVariants.{OutOfBounds}
@@ -14,24 +15,24 @@ use Rattle.merge_law.specs.Machine.{Raw, is_linked}
 use Rattle.world_model.specs.Action.{Action, Turn, Load, Issue, Fetch, Init, Fence, Move, Where, Print, Alloc, Spawn, Sync, End, Trap, Striped, Blocked, Local, Replicated, pos_of}
 use Rattle.world_model.specs.Sight.{Sight, is_bad, place_after}
 use Rattle.world_model.specs.World.{World, with_strand, with_trap}
-use Rattle.world_model.specs.Step.{done_by}
+use Rattle.world_model.specs.Step.{done_by, step}
 use Rattle.threadlet_code.specs.Breaches.{is_sound}
-use Rattle.threadlet_code.specs.Machine.{State, Next, goes, asks, stops, stuck}
+use Rattle.threadlet_code.specs.Machine.{State, goes, asks}
 use Rattle.threadlet_code.specs.Machine as code
 use Rattle.threadlet_code.specs.Running.{due}
 use Rattle.nodelet_core.specs.Contexts.{Context, Body}
 use Rattle.nodelet_core.specs.Nodes.{Setup, Node, moved_from}
 use Rattle.nodelet_core.specs.Effects.{effect}
-use Rattle.nodelet_core.specs.Runs.{Way, Refused, DoneHere, SentTo, Waits, way_of, is_free, outside, has_effect, done_here, stays_before, by_way, went_on, trapped, sent_whole, last_done}
+use Rattle.nodelet_core.specs.Runs.{Refused, SentTo, way_of, is_free, outside, went_on, trapped, sent_whole, last_done}
 use Rattle.sim_core.specs.Core.{Core, setting_of}
 use Rattle.sim_core.proofs.Views.{after_run}
 use Rattle.sim_core.proofs.Invariant.{Invariant}
 use Rattle.sim_core.proofs.Frames.{Kept}
 use Rattle.sim_core.proofs.Before.{Before, seen_here}
-use Rattle.sim_core.proofs.Ways.{IsDone, IsSent, IsLate, IsBad, done_way, sent_way, refused_way}
+use Rattle.sim_core.proofs.Ways.{IsDone, IsSent, IsLate, IsBad, sent_way, refused_way}
 use Rattle.sim_core.proofs.Sees.{never_same}
 use Rattle.sim_core.proofs.Acting.{in_world, refusal_at, acts_here, bad_there, late_there}
-use Rattle.sim_core.proofs.Waiting.{KeepsShared, waiting, waits_kept, sent_kept}
+use Rattle.sim_core.proofs.Waiting.{KeepsShared, sent_kept}
 use Rattle.sim_core.proofs.Plain.{moved-part, IsPlain, plain_kept}
 use Rattle.sim_core.proofs.PlainActions.{turn_plain, fence_plain, where_plain, move_plain, print_plain, load_plain, fetch_plain}
 use Rattle.sim_core.proofs.Issuing.{issue_plain, init_plain}
@@ -71,7 +72,7 @@ place_within n s (End v) some here home good = here
 place_within n s (Trap at kind) some here home good = here
 
 -- only an End may have to wait for the result before it, and it moves nobody
-free_moving : (n k : ℕ) (s : Sight) (v : Node) (ticket : Option Ticket) (action : Action) → (place_after n s action == s.here) ≡ false → is_free k v ticket action ≡ true
+pub free_moving : (n k : ℕ) (s : Sight) (v : Node) (ticket : Option Ticket) (action : Action) → (place_after n s action == s.here) ≡ false → is_free k v ticket action ≡ true
 free_moving n k s v None action ne = refl
 free_moving n k s v (Some t) (End value) ne = never_same s.here ne
 free_moving n k s v (Some t) Turn ne = refl
@@ -87,9 +88,6 @@ free_moving n k s v (Some t) (Alloc request) ne = refl
 free_moving n k s v (Some t) (Spawn d f args hint) ne = refl
 free_moving n k s v (Some t) (Sync d) ne = refl
 free_moving n k s v (Some t) (Trap at kind) ne = refl
-
-some_is : {A : Type 0} (x y : A) → Some x ≡ Some y → x ≡ y
-some_is x y e = cc
 
 both_linked : (n k to : ℕ) → k < n → to < n → (to == k) ≡ false → is_linked n k to ≡ true
 both_linked n k to inside below ne =
@@ -115,14 +113,21 @@ module _ (u : Setup) (sound : is_sound u.code ≡ true) (some : 1 ≤ u.nodelets
   abbrev KeptBy : Raw Node Body → Type 0
   KeptBy raw = Kept u w (after_run u c k stamp event raw) raw.step
 
-  kept_as : (r raw : Raw Node Body) → Some r ≡ Some raw → KeptBy r → KeptBy raw
-  kept_as r raw e kept = subst (λ (y : Raw Node Body). KeptBy y) (some_is r raw e) kept
-
   keeps_all : KeepsShared v v
   keeps_all = record { cells = refl; granted = refl; cursors = refl; pieces = refl; served = refl }
 
+  -- the steps of the world that make it trap
+  pub outside_step : (at : Pos) → IsDone u.nodelets u.turns here action free → outside u k v action ≡ Some at → step (setting_of u) w (Act q None) ≡ Some (with_strand w q (with_trap b.s k OutOfBounds at))
+  outside_step at done e = acts_here u sound c w inv k q x state action b None free done ∙ ap (λ o. done_by (setting_of u) w q b.s None action (option_map (refusal_at k OutOfBounds) o)) e
+
+  pub refused_step : (kind : TrapKind) (at : Pos) → way_of u.nodelets u.turns here action free ≡ Refused kind at → step (setting_of u) w (Act q None) ≡ Some (with_strand w q (with_trap b.s b.s.place kind at))
+  refused_step kind at e = ⊎_elim
+      (λ (bad : IsBad u.nodelets action kind at). bad_there u sound c w inv k q x state action b bad.bad ∙ ap (λ y. Some (with_strand w q (with_trap b.s b.s.place y (pos_of action)))) (sym bad.kind_is) ∙ ap (λ y. Some (with_strand w q (with_trap b.s b.s.place kind y))) (sym bad.pos_is))
+      (λ (late : IsLate u.nodelets u.turns here action at × (kind ≡ OutOfBounds)). late_there u sound c w inv k q x state action b at late.0 ∙ ap (λ y. Some (with_strand w q (with_trap b.s b.s.place y at))) (sym late.1))
+      (refused_way u.nodelets u.turns here action free kind at e)
+
   -- it traps where it would use a word that is not granted
-  outside_kept : (at : Pos) → IsDone u.nodelets u.turns here action free → outside u k v action ≡ Some at → KeptBy (trapped (moved_from k x.place v) x.name (suc silent) OutOfBounds at)
+  pub outside_kept : (at : Pos) → IsDone u.nodelets u.turns here action free → outside u k v action ≡ Some at → KeptBy (trapped (moved_from k x.place v) x.name (suc silent) OutOfBounds at)
   outside_kept at done e = trap_kept u sound c w inv k q x state action b stamp event (moved_from k x.place v) (suc silent) OutOfBounds at k some
       (moved-part (λ (y : Node). y.contexts) k x.place v (λ t. refl)) (moved-part (λ (y : Node). y.under_way) k x.place v (λ t. refl)) (moved-part (λ (y : Node). y.results) k x.place v (λ t. refl))
       (moved-part (λ (y : Node). y.next_number) k x.place v (λ t. refl)) (moved-part (λ (y : Node). y.main_value) k x.place v (λ t. refl))
@@ -134,16 +139,13 @@ module _ (u : Setup) (sound : is_sound u.code ≡ true) (some : 1 ≤ u.nodelets
         served = moved-part (λ (y : Node). y.served) k x.place v (λ t. refl);
       })
       (inr (refl, (in_world u sound c w inv k q x state action b free done).how))
-      (acts_here u sound c w inv k q x state action b None free done ∙ ap (λ o. done_by (setting_of u) w q b.s None action (option_map (refusal_at k OutOfBounds) o)) e)
+      (outside_step at done e)
 
-  refused_kept : (kind : TrapKind) (at : Pos) → way_of u.nodelets u.turns here action free ≡ Refused kind at → KeptBy (trapped v x.name (suc silent) kind at)
+  pub refused_kept : (kind : TrapKind) (at : Pos) → way_of u.nodelets u.turns here action free ≡ Refused kind at → KeptBy (trapped v x.name (suc silent) kind at)
   refused_kept kind at e = trap_kept u sound c w inv k q x state action b stamp event v (suc silent) kind at b.s.place some refl refl refl refl refl keeps_all (inl refl)
-      (⊎_elim
-      (λ (bad : IsBad u.nodelets action kind at). bad_there u sound c w inv k q x state action b bad.bad ∙ ap (λ y. Some (with_strand w q (with_trap b.s b.s.place y (pos_of action)))) (sym bad.kind_is) ∙ ap (λ y. Some (with_strand w q (with_trap b.s b.s.place kind y))) (sym bad.pos_is))
-      (λ (late : IsLate u.nodelets u.turns here action at × (kind ≡ OutOfBounds)). late_there u sound c w inv k q x state action b at late.0 ∙ ap (λ y. Some (with_strand w q (with_trap b.s b.s.place y at))) (sym late.1))
-      (refused_way u.nodelets u.turns here action free kind at e))
+      (refused_step kind at e)
 
-  sent_away_kept : (to : ℕ) → way_of u.nodelets u.turns here action free ≡ SentTo to → KeptBy (sent_whole v x state (suc silent) to)
+  pub sent_away_kept : (to : ℕ) → way_of u.nodelets u.turns here action free ≡ SentTo to → KeptBy (sent_whole v x state (suc silent) to)
   sent_away_kept to e = sent_kept u sound c w inv k q x state action b stamp event (suc silent) to way
       (both_linked u.nodelets k to b.inside
       (subst (λ j. j < u.nodelets) way.goes (place_within u.nodelets here action some b.inside (subst (λ j. j < u.nodelets) (sym b.here.home) (inv.within q b.s b.known).home) way.good))
@@ -151,28 +153,6 @@ module _ (u : Setup) (sound : is_sound u.code ≡ true) (some : 1 ≤ u.nodelets
     where
       way : IsSent u.nodelets here action to
       way = sent_way u.nodelets u.turns here action free to (free_moving u.nodelets k here v x.ticket action) e
-
-  stays_kept : (m : ℕ) (raw : Raw Node Body) → stays_before v x state m ≡ Some raw → KeptBy raw
-  stays_kept zero raw e = absurd cc
-  stays_kept (suc m) raw e = kept_as (waiting u sound c w inv k q x state action b stamp event (suc m)) raw e (waits_kept u sound c w inv k q x state action b stamp event (suc m))
-
-  -- whatever its way, where its effect keeps the invariant
-  pub way_kept : (next : Next) → (IsDone u.nodelets u.turns here action free → outside u k v action ≡ None → (raw : Raw Node Body) → has_effect u k v x state (suc silent) next ≡ Some raw → KeptBy raw) →
-      (raw : Raw Node Body) → by_way u k v x state silent next action (way_of u.nodelets u.turns here action free) ≡ Some raw → KeptBy raw
-  way_kept next effects raw e = go (way_of u.nodelets u.turns here action free) refl e
-    where
-      go : (way : Way) → way_of u.nodelets u.turns here action free ≡ way → by_way u k v x state silent next action way ≡ Some raw → KeptBy raw
-      go (Refused kind at) f g = kept_as _ raw g (refused_kept kind at f)
-      go (SentTo to) f g = kept_as _ raw g (sent_away_kept to f)
-      go Waits f g = stays_kept silent raw g
-      go DoneHere f g = at (outside u k v action) refl g
-        where
-          done : IsDone u.nodelets u.turns here action free
-          done = done_way u.nodelets u.turns here action free f
-
-          at : (o : Option Pos) → outside u k v action ≡ o → done_here u k v x state (suc silent) next o ≡ Some raw → KeptBy raw
-          at None h j = effects done h raw j
-          at (Some p) h j = kept_as _ raw j (outside_kept p done h)
 
 -- ---- an action that is asked for, and the last one
 

@@ -30,7 +30,7 @@ pub record IsStateOf (c : Code) (s : Strand) (state : State) : Type 0 where
   pub owes : (d : ℕ) → owed d state ≡ length (children_at d s.children)
 
 -- what holds of a state and stays where a silent instruction is done holds where it halts
-kept_halting : (c : Code) (P : State → Type 0) → ((state after : State) → step c state ≡ goes after → P state → P after) →
+pub kept_halting : (c : Code) (P : State → Type 0) → ((state after : State) → step c state ≡ goes after → P state → P after) →
     (n done : ℕ) (state : State) (next : Next) → step c state ≡ next → P state → P (halts n c done state next).state
 kept_halting c P silent zero done state next e p = p
 kept_halting c P silent (suc n) done state (goes after) e p = kept_halting c P silent n (suc done) after (step c after) refl (silent state after e p)

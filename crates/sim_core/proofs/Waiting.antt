@@ -27,6 +27,7 @@ use Rattle.sim_core.proofs.Links.{part-kept, with_first, sent, sent-none, plus-n
 use Rattle.sim_core.proofs.Views.{View, view, same_view, sending, arrival_of, item_of, ack_of, result_of, after_run, view-after_run}
 use Rattle.sim_core.proofs.Invariant.{IsAway, Known, Invariant}
 use Rattle.sim_core.proofs.Frames.{Kept, LeavesStrands, QuietFor, leaves-run, framed}
+use Rattle.sim_core.proofs.Ran.{stayed}
 use Rattle.sim_core.proofs.Going.{stood, sending-stood, waits_on, departed, departs}
 use Rattle.sim_core.proofs.Sees.{goes_fixed, not_both}
 use Rattle.sim_core.proofs.Before.{Before, seen_here, away_action, none_under_way, same_late, childless_same}
@@ -100,10 +101,7 @@ module _ (u : Setup) (sound : is_sound u.code ≡ true) (c : Core) (w : World) (
 
   -- ---- it stays
 
-  abbrev pub waiting : ℕ → Raw Node Body
-  waiting count = record { node = node.with_strand v (record x { state = state }); bodies = nothing; count = count; step = None }
-
-  pub waits_kept : (count : ℕ) → Kept u w (after_run u c k stamp event (waiting count)) None
+  pub waits_kept : (count : ℕ) → Kept u w (after_run u c k stamp event (stayed v x state count)) None
   waits_kept count = record {
     world = w;
     leads = refl;
@@ -112,7 +110,7 @@ module _ (u : Setup) (sound : is_sound u.code ≡ true) (c : Core) (w : World) (
   }
     where
       raw : Raw Node Body
-      raw = waiting count
+      raw = stayed v x state count
 
       x' : Context
       x' = record x { state = state }

@@ -3,7 +3,7 @@ use Rattle.std.specs.Prelude.{◌≡◌, ◌<◌, ℕ, ◌-◌, ℤ, nat_le, fil
 use Rattle.word_ops.specs.declared.name.Name.{Name}
 use Rattle.word_ops.specs.Naming.{same_name}
 use Rattle.world_model.specs.Action.{Action, Turn}
-use Rattle.world_model.specs.World.{Item, Strand, World, strand_of, is_granted, Live}
+use Rattle.world_model.specs.World.{Setting, Item, Strand, World, strand_of, is_granted, Live}
 use Rattle.world_model.specs.Step.{due}
 use Rattle.threadlet_code.specs.Running as code
 use Rattle.nodelet_core.specs.Contexts.{Context, Body, Issued, context_of}
@@ -11,7 +11,7 @@ use Rattle.nodelet_core.specs.Nodes.{Setup, Node}
 use Rattle.nodelet_core.specs.Nodes as node
 use Rattle.nodelet_core.specs.Runs.{action_in}
 use Rattle.nodelet_core.specs.Machine.{Packet}
-use Rattle.sim_core.specs.Core.{Core, setting_of}
+use Rattle.sim_core.specs.Core.{Core}
 
 -- The nodelet at which the cursor of a view stands.
 abbrev pub cursor_home : ℕ → ℕ
@@ -31,18 +31,18 @@ pub record SharesAll (u : Setup) (c : Core) (w : World) : Type 0 where
 abbrev pub due_here : Setup → Context → Option Action
 due_here u x = action_in (code.due u.code x.state)
 
--- A context is that of a live strand: it has its place, and is due its action.
-pub record IsOf (u : Setup) (w : World) (x : Context) : Type 0 where
+-- A context is that of a live strand: it has its place, and is due the action that the meaning gives the strand.
+pub record IsOf (u : Setup) (on : Setting) (w : World) (x : Context) : Type 0 where
   pub strand : Strand
   pub known : strand_of w x.name ≡ Some strand
   pub live : strand.status ≡ Live
   pub place : x.place ≡ strand.place
-  pub due_same : due_here u x ≡ due (setting_of u) strand
+  pub due_same : due_here u x ≡ due on strand
 
 -- So is each context at a nodelet, which is its place where it is due a Turn.
-abbrev pub ContextsAreOf : Setup → Core → World → Type 0
-ContextsAreOf u c w = (k : ℕ) (name : Name) (x : Context) → context_of name (c.nodes k).contexts ≡ Some x →
-    IsOf u w x × (due_here u x ≡ Some Turn → x.place ≡ k)
+abbrev pub ContextsAreOf : Setup → Setting → Core → World → Type 0
+ContextsAreOf u on c w = (k : ℕ) (name : Name) (x : Context) → context_of name (c.nodes k).contexts ≡ Some x →
+    IsOf u on w x × (due_here u x ≡ Some Turn → x.place ≡ k)
 
 -- ---- what is pending
 
