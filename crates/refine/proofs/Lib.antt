@@ -1,0 +1,6 @@
+pub mod Each
+pub mod Known
+pub mod Alike
+pub mod Runs
+pub mod Counts
+pub mod Events

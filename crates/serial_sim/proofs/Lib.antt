@@ -1,0 +1,3 @@
+pub mod Once
+mod WordExamples
+mod PickExamples
