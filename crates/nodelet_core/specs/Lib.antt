@@ -5,3 +5,8 @@ pub mod Runs
 pub mod Takes
 pub mod Start
 pub mod Machine
+pub mod Operands
+pub mod Dues
+pub mod Standing
+pub mod Tallied
+pub mod Kept

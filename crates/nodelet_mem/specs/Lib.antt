@@ -1,4 +1,5 @@
 pub mod Grants
+pub mod GrantsState
 pub mod Listing
 pub mod Pages
 pub mod Words

@@ -1,6 +1,6 @@
 //! The grants of a nodelet: which addresses were given out.
 
-ghost use Rattle.std.specs.Prelude.{◌≡◌, ℤ, pos, true, false, ◌||◌, ◌+ℤ◌, ◌<◌, length, IfSome, OnOk, OnErr};
+ghost use Rattle.std.specs.Prelude.{◌≡◌, ℤ, pos, true, false, ◌||◌, ◌+ℤ◌, ◌<◌, ◌≤◌, length, IfSome, OnOk, OnErr};
 ghost use Rattle.std.specs.List.{HoldsAt};
 ghost use Rattle.nodelet_mem.specs.Grants.{is_within, is_granted_by, touches, run_up_to};
 
@@ -47,18 +47,18 @@ pub struct Grants {
 }
 
 impl Model for Grants {
-    ghost use Rattle.std.specs.Prelude.{List};
-    ghost use Rattle.nodelet_mem.specs.declared.grants.Run.{Run};
+    ghost use Rattle.std.specs.Prelude.{◌-◌, vec_len, vec_capacity};
+    ghost use Rattle.nodelet_mem.specs.GrantsState.{GrantsState};
 
-    ghost Value = { List Run };
+    ghost Value = { GrantsState };
 
-    ghost view = { λ g. g.runs.items };
+    ghost view = { λ g. record { runs = g.runs.items; spare = vec_capacity g.runs - vec_len g.runs } };
 }
 
 impl Grants {
     /// No grants; they grow on `alloc`.
     pub fn new(alloc: Global) -> Grants
-        ensures { (a : ℤ) → is_granted_by result a ≡ false }
+        ensures { (a : ℤ) → is_granted_by result.runs a ≡ false }
     {
         Grants {
             runs: Vec::new(alloc),
@@ -67,20 +67,33 @@ impl Grants {
 
     /// Adds the `count` addresses from `first` on. Want of memory changes nothing.
     pub fn add(&mut self, first: i64, count: u64) -> Result<(), AllocError>
-        ensures ok { OnOk result ((a : ℤ) → is_granted_by self.new a ≡ (is_granted_by self.old a || is_within first (first +ℤ pos count) a)) }
+        ensures ok { OnOk result ((a : ℤ) → is_granted_by self.new.runs a ≡ (is_granted_by self.old.runs a || is_within first (first +ℤ pos count) a)) }
         ensures err { OnErr result (self.new ≡ self.old) }
+        ensures full { OnErr result (self.old.spare ≡ 0) }
     {
         let end = i128::from(first) + i128::from(count);
         match touched(&self.runs, first) {
             Some(i) => self.runs[i] = self.runs[i].up_to(end),
-            None => self.runs.push(Run { first, end })?,
+            None => {
+                self.runs.reserve(1)?;
+                self.runs.push_reserved(Run { first, end });
+            }
         }
         Ok(())
     }
 
+    /// Makes room for one more run. Want of memory changes nothing.
+    pub fn reserve(&mut self) -> Result<(), AllocError>
+        ensures runs { self.new.runs ≡ self.old.runs }
+        ensures room { OnOk result (1 ≤ self.new.spare) }
+        ensures err { OnErr result (self.new ≡ self.old) }
+    {
+        self.runs.reserve(1)
+    }
+
     /// Whether `address` was granted.
     pub fn contains(&self, address: i64) -> bool
-        ensures { result ≡ is_granted_by self.now address }
+        ensures { result ≡ is_granted_by self.now.runs address }
     {
         self.runs.iter().any(|run| run.contains(address))
     }

@@ -1,10 +1,10 @@
 //! The words of one nodelet, and its grants.
 
-ghost use Rattle.std.specs.Prelude.{◌≡◌, ◌≢◌, ℤ, pos, ◌+ℤ◌, false, ◌||◌, if◌then◌else◌, IfOk, OnOk, OnErr};
+ghost use Rattle.std.specs.Prelude.{◌≡◌, ◌≢◌, ◌≤◌, ℤ, pos, ◌+ℤ◌, false, ◌||◌, if◌then◌else◌, IfOk, OnOk, OnErr};
 ghost use Rattle.word_ops.specs.Operators.{same_word};
 ghost use Rattle.nodelet_mem.specs.Grants.{is_within};
 ghost use Rattle.nodelet_mem.specs.Listing.{AreWords};
-ghost use Rattle.nodelet_mem.specs.Words.{word_of, is_granted};
+ghost use Rattle.nodelet_mem.specs.Words.{word_of, is_granted, grant_room};
 
 use super::grants::Grants;
 use super::pages::Pages;
@@ -56,13 +56,25 @@ impl Words {
         self.pages.listed()
     }
 
-    /// Grants the `count` addresses from `first` on, which may pass the greatest one. Want of memory changes nothing.
+    /// Grants the `count` addresses from `first` on, which may pass the greatest one. Want of memory changes
+    /// nothing, and comes only where there is no room for a grant.
     pub fn grant(&mut self, first: i64, count: u64) -> Result<(), AllocError>
         ensures granted { OnOk result ((a : ℤ) → is_granted self.new a ≡ (is_granted self.old a || is_within first (first +ℤ pos count) a)) }
         ensures words { (a : ℤ) → word_of self.new a ≡ word_of self.old a }
         ensures err { OnErr result (self.new ≡ self.old) }
+        ensures full { OnErr result (grant_room self.old ≡ 0) }
     {
         self.grants.add(first, count)
+    }
+
+    /// Makes room for one grant, which then takes no memory. Want of memory changes nothing.
+    pub fn reserve_grant(&mut self) -> Result<(), AllocError>
+        ensures room { OnOk result (1 ≤ grant_room self.new) }
+        ensures words { (a : ℤ) → word_of self.new a ≡ word_of self.old a }
+        ensures grants { (a : ℤ) → is_granted self.new a ≡ is_granted self.old a }
+        ensures err { OnErr result (self.new ≡ self.old) }
+    {
+        self.grants.reserve()
     }
 
     /// Whether an address is in a grant.

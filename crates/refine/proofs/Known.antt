@@ -16,12 +16,12 @@ use Rattle.threadlet_code.specs.Machine as machine
 use Rattle.threadlet_code.specs.Running as code
 use Rattle.threadlet_code.specs.Running.{halt, room, started, told}
 use Rattle.threadlet_code.specs.Fitting.{Fits}
-use Rattle.threadlet_code.proofs.FitLaws.{starts_fit, silent_fits, answer_fits, children_fit}
+use Rattle.threadlet_code.proofs.FitLaws.{starts_fit, answer_fits, children_fit}
 use Rattle.threadlet_code.proofs.Halting.{halts_at_due}
 use Rattle.threadlet_code.proofs.Leads.{rules_are_kept}
 use Rattle.nodelet_core.specs.Nodes.{Setup}
 use Rattle.sim_core.specs.Core.{setting_of}
-use Rattle.sim_core.proofs.States.{kept_halting}
+use Rattle.nodelet_core.proofs.Nexting.{halted_fits}
 use Rattle.sim_core.proofs.Lasts.{IsLast, IsSorted, step_sorted}
 use Rattle.refine.proofs.Each.{Each, step-each}
 
@@ -41,9 +41,6 @@ due_of (Ended value) o action e = absurd cc
 due_of (Trapped kind at) o action e = absurd cc
 
 module _ (c : Code) (sound : is_sound c ≡ true) where
-  halted_fits : (state : State) → Fits c state → Fits c (halt c state).state
-  halted_fits state fits = kept_halting c (λ y. Fits c y) (λ a b e p. silent_fits c sound a b p e) (room c state) 0 state (machine.step c state) refl fits
-
   -- a strand whose last action is a Spawn gives the child its arguments
   takes : (answers : Answers) (next : Next) (state : State) → Fits c state → machine.step c state ≡ next →
       (d function : ℕ) (args : List ℤ) (hint : Option Hint) → last_of (told answers c next) ≡ Some (Spawn d function args hint) → Takes c function args
@@ -59,7 +56,7 @@ module _ (c : Code) (sound : is_sound c ≡ true) where
   takes (answer ∷ answers) (asks action resume) state fits e d function args hint f =
       go (told answers c (code.due c (resume answer))) f
       (λ g. takes answers (code.due c (resume answer)) (halt c (resume answer)).state
-      (halted_fits (resume answer) (answer_fits c sound state action resume answer fits e)) (halts_at_due c sound (resume answer)) d function args hint g)
+      (halted_fits c sound (resume answer) (answer_fits c sound state action resume answer fits e)) (halts_at_due c sound (resume answer)) d function args hint g)
     where
       go : (rest : List Action) → last_of (action ∷ rest) ≡ Some (Spawn d function args hint) → (last_of rest ≡ Some (Spawn d function args hint) → Takes c function args) → Takes c function args
       go [] g ih =
@@ -74,7 +71,7 @@ module _ (c : Code) (sound : is_sound c ≡ true) where
   pub spawn_takes : (s : Strand) (d function : ℕ) (args : List ℤ) (hint : Option Hint) → Takes c s.function s.args →
       last_of (code.acts c s.function s.args s.answers) ≡ Some (Spawn d function args hint) → Takes c function args
   spawn_takes s d function args hint t e =
-      takes s.answers (code.due c begun) (halt c begun).state (halted_fits begun (started_fits s.function s.args t)) (halts_at_due c sound begun) d function args hint e
+      takes s.answers (code.due c begun) (halt c begun).state (halted_fits c sound begun (started_fits s.function s.args t)) (halts_at_due c sound begun) d function args hint e
     where
       begun : State
       begun = started s.function (slice_get c.functions s.function) s.args

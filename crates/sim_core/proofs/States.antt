@@ -1,5 +1,5 @@
 -- The state of a context as that of its strand.
-use Rattle.std.proofs.Common.{◌≡◌, ℕ, zero, suc, List, [], ◌∷◌, ◌++◌, length, Option, Some, refl, sym, ap, ◌∙◌, subst, Bool, true, false, ℤ}
+use Rattle.std.proofs.Common.{◌≡◌, ℕ, suc, List, [], ◌∷◌, ◌++◌, length, Option, Some, refl, sym, ap, ◌∙◌, subst, Bool, true, false, ℤ}
 use Rattle.std.specs.Prelude.{slice_get, if◌then◌else◌, ◌==◌}
 use Rattle.world_model.specs.Action.{Action, Answers, Spawn, Sync}
 use Rattle.world_model.specs.Meaning.{children_after}
@@ -20,6 +20,7 @@ use Rattle.threadlet_code.proofs.Nearing.{due_step}
 use Rattle.threadlet_code.proofs.Kept.{has_turns}
 use Rattle.sim_core.specs.Core.{setting_of}
 use Rattle.nodelet_core.specs.Nodes.{Setup}
+use Rattle.nodelet_core.proofs.Nexting.{kept_halting}
 use Rattle.nodelet_core.specs.Runs.{action_in}
 
 -- the state follows the strand's answers, fits the code, and owes what the strand has to join
@@ -28,15 +29,6 @@ pub record IsStateOf (c : Code) (s : Strand) (state : State) : Type 0 where
   pub fits : Fits c state
   pub tidy : AllTidy c state
   pub owes : (d : ℕ) → owed d state ≡ length (children_at d s.children)
-
--- what holds of a state and stays where a silent instruction is done holds where it halts
-pub kept_halting : (c : Code) (P : State → Type 0) → ((state after : State) → step c state ≡ goes after → P state → P after) →
-    (n done : ℕ) (state : State) (next : Next) → step c state ≡ next → P state → P (halts n c done state next).state
-kept_halting c P silent zero done state next e p = p
-kept_halting c P silent (suc n) done state (goes after) e p = kept_halting c P silent n (suc done) after (step c after) refl (silent state after e p)
-kept_halting c P silent (suc n) done state (asks action resume) e p = p
-kept_halting c P silent (suc n) done state (stops action) e p = p
-kept_halting c P silent (suc n) done state stuck e p = p
 
 silent_is : (c : Code) → is_sound c ≡ true → (s : Strand) (state after : State) → step c state ≡ goes after → IsStateOf c s state → IsStateOf c s after
 silent_is c sound s state after e is =

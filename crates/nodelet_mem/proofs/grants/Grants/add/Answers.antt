@@ -4,6 +4,7 @@ use mir.Syntax.{w128}
 use Rattle.std.proofs.lemmas.Int.{to_z-of_z, ints}
 use Rattle.nodelet_mem.specs.Grants.{is_within, is_granted_by, touches, run_up_to}
 use Rattle.nodelet_mem.specs.declared.grants.Run.{Run}
+use Rattle.nodelet_mem.specs.GrantsState.{GrantsState}
 use Rattle.nodelet_mem.proofs.RunsJoined.{joined, added}
 use Rattle.nodelet_mem.proofs.grants.Grants.add.Goals as goal
 
@@ -39,17 +40,18 @@ returns-in-Some-clause-ok c =
     let run : c.up_to.result ≡ run_up_to (get_or items i d) end = c.up_to.ensures ∙ ap (run_up_to d) ends ∙ ap (λ r. run_up_to r end) c.index.ensures in
     λ a. ap (λ r. is_granted_by (set items i r) a) run
     ∙ joined items i first end a below touched (not_before first c.args.count) d
-    ∙ ap (λ l. is_granted_by l a || is_within first end a) c.self.view_is
+    ∙ ap (λ (g : GrantsState). is_granted_by g.runs a || is_within first end a) c.self.view_is
 
-pub returns-in_ok-push-in-None-clause-ok : goal.returns-in_ok-push-in-None-clause-ok
-returns-in_ok-push-in-None-clause-ok c =
+pub returns-in_ok-reserve-in-None-clause-ok : goal.returns-in_ok-reserve-in-None-clause-ok
+returns-in_ok-reserve-in-None-clause-ok c =
     let first = c.args.first in
     let end = first +ℤ pos c.args.count in
     let items = c.self.inside.runs.items in
     let ends = end_is first c.from.result c.from-2.result c.args.count c.ranges.first c.ranges.count c.from.ensures c.from-2.ensures in
     let same : to_z w64 (of_z w64 first) ≡ first = to_z-of_z w64 first c.ranges.first in
-    λ a. ap (λ l. is_granted_by l a) c.in_ok-push-in-None.ensures.items
+    λ a. ap (λ l. is_granted_by l a) c.push_reserved.ensures.items
+    ∙ ap (λ l. is_granted_by (l ++ run_from (to_z w64 (of_z w64 first)) (to_z w128 (of_z w128 (to_z w128 (of_z w128 c.from.result) +ℤ to_z w128 (of_z w128 c.from-2.result)))) ∷ []) a) c.in_ok-reserve-in-None.ensures.items
     ∙ ap (λ e. is_granted_by (items ++ run_from (to_z w64 (of_z w64 first)) e ∷ []) a) ends
     ∙ ap (λ f. is_granted_by (items ++ run_from f end ∷ []) a) same
     ∙ added items (run_from first end) a
-    ∙ ap (λ l. is_granted_by l a || is_within first end a) c.self.view_is
+    ∙ ap (λ (g : GrantsState). is_granted_by g.runs a || is_within first end a) c.self.view_is

@@ -1,0 +1,8 @@
+pub mod Deciding
+pub mod Found
+mod Joining
+mod Starts
+pub mod Asking
+pub mod Seeing
+pub mod Syncing
+pub mod Nexting
