@@ -61,7 +61,7 @@ rises y z t e = go (nat_lt y.nodelet t.nodelet) (nat_lt t.nodelet z.nodelet) ref
         let less : y.number < z.number = grind arith in
         omega (arith, numbers_rise y.number z.number t.number less, ap ordering_index (level y t first), ap ordering_index (level z t second))
 
-both : (b c : Bool) → (b && c) ≡ true → (b ≡ true) × (c ≡ true)
+pub both : (b c : Bool) → (b && c) ≡ true → (b ≡ true) × (c ≡ true)
 both true true e = (refl, refl)
 both true false e = absurd (let wrong : false ≡ true = e in cc)
 both false c e = absurd (let wrong : false ≡ true = e in cc)
@@ -116,7 +116,7 @@ none_named code t (x ∷ contexts) e =
     ap (λ b. if b then Some (context_in code x) else context_of t (map (context_in code) contexts)) (e 0 x (omega arith))
     ∙ none_named code t contexts (λ k d lt. e (suc k) d (omega arith))
 
-itself : (t : Name) → same_name t t ≡ true
+pub itself : (t : Name) → same_name t t ≡ true
 itself t = grind arith
 
 either : (b : Bool) (y : Context) (rest : Option Context) → is_some rest ≡ true → is_some (if b then Some y else rest) ≡ true
@@ -133,10 +133,10 @@ some_named code (y ∷ contexts) zero x lt e =
 some_named code (y ∷ contexts) (suc i) x lt e =
     either (same_name x.name y.name) (context_in code y) (context_of x.name (map (context_in code) contexts)) (some_named code contexts i x (omega arith) e)
 
-precedes_apart : (y t : Name) → precedes y t ≡ true → same_name t y ≡ false
+pub precedes_apart : (y t : Name) → precedes y t ≡ true → same_name t y ≡ false
 precedes_apart y t e = grind (arith, eqb_tells, nat_tests)
 
-passes : (p : Name → Bool) (contexts : List carried.Context) → list_all p (names_of contexts) ≡ true → (i : ℕ) (d : carried.Context) → i < length contexts → p (get_or contexts i d).name ≡ true
+pub passes : (p : Name → Bool) (contexts : List carried.Context) → list_all p (names_of contexts) ≡ true → (i : ℕ) (d : carried.Context) → i < length contexts → p (get_or contexts i d).name ≡ true
 passes p [] all i d lt = absurd (omega (arith, lt))
 passes p (x ∷ contexts) all zero d lt = (both (p x.name) (list_all p (names_of contexts)) all).0
 passes p (x ∷ contexts) all (suc i) d lt = passes p contexts (both (p x.name) (list_all p (names_of contexts)) all).1 i d (omega (arith, lt))

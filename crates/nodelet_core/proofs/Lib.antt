@@ -6,3 +6,7 @@ pub mod Asking
 pub mod Seeing
 pub mod Syncing
 pub mod Nexting
+pub mod Coming
+pub mod Changed
+pub mod Placing
+pub mod Lateness

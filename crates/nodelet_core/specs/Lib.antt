@@ -8,5 +8,6 @@ pub mod Machine
 pub mod Operands
 pub mod Dues
 pub mod Standing
+pub mod Changed
 pub mod Tallied
 pub mod Kept

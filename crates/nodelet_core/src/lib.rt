@@ -3,6 +3,7 @@
 #![tactic(auto)]
 
 mod awaiting;
+mod changing;
 mod due;
 mod going;
 mod next;

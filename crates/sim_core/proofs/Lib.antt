@@ -86,3 +86,6 @@ pub mod Still
 pub mod Blocked
 pub mod Lacking
 pub mod NotStuck
+pub mod AtPlaces
+pub mod FirstCore
+pub mod CensusKept

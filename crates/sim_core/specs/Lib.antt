@@ -4,3 +4,7 @@ pub mod Reached
 pub mod Counted
 pub mod Rank
 pub mod Laws
+pub mod Links
+pub mod Numbered
+pub mod Kept
+pub mod Named

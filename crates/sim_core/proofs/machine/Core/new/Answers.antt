@@ -1,0 +1,25 @@
+use Rattle.std.proofs.Common.{refl}
+use Rattle.sim_core.proofs.FirstCore.{first_core, first_fits, first_numbered, clear_fits}
+use Rattle.sim_core.proofs.machine.Core.new.Goals as goal
+
+pub invariant_of-result : goal.invariant_of-result
+invariant_of-result c = record {
+  some = c.requires.some;
+  few = c.requires.few;
+  nodes_count = c.in_ok-nodes.ensures.count;
+  links_count = c.in_ok-links.ensures.count;
+  all_linked = c.in_ok-links.ensures.linked;
+  numbered = first_numbered c.args.code.now.code c.args.n c.args.turns c.args.rules c.in_ok-nodes.nodes.items c.in_ok-links.links.items c.in_ok-nodes.ensures.first;
+}
+
+pub returns-clause-core : goal.returns-clause-core
+returns-clause-core c =
+    first_core c.args.code.now.code c.args.n c.args.turns c.args.rules c.in_ok-nodes.nodes.items c.in_ok-links.links.items
+    c.in_ok-nodes.ensures.first c.in_ok-links.ensures.clear
+
+pub returns-clause-fits : goal.returns-clause-fits
+returns-clause-fits c =
+    rw (
+      first_fits c.args.code.now.code c.args.n c.args.turns c.args.rules c.in_ok-nodes.nodes.items c.in_ok-links.links.items c.in_ok-nodes.ensures.first,
+      clear_fits c.args.code.now.code c.in_ok-links.links.items c.in_ok-links.ensures.clear,
+    ) refl

@@ -1,0 +1,59 @@
+use std::alloc::{AllocError, Global};
+use std::collections::VecDeque;
+use threadlet_state::Packet;
+
+/// The link from one nodelet to another: the packets that were sent and not taken, oldest first
+/// (docs/machine.md, "The core").
+#[derive(Drop)]
+pub(crate) struct Link {
+    pub(crate) queue: VecDeque<Packet>,
+}
+
+impl Link {
+    ghost use Rattle.std.specs.Prelude.{◌≡◌, ◌+◌, ◌≤◌, [], ◌∷◌, ◌++◌, option_to_list, slice_get, OnOk};
+    ghost use Rattle.std.specs.Option.{option_copied};
+    ghost use Rattle.sim_core.specs.Links.{packets_of, spare};
+
+    /// No packet is on it; it grows on `alloc`.
+    pub fn new(alloc: Global) -> Link
+        ensures { packets_of result ≡ [] }
+    {
+        Link {
+            queue: VecDeque::new(alloc),
+        }
+    }
+
+    /// Makes room for at least `more` packets, and sends nothing. Want of memory leaves at least the room
+    /// that there was.
+    pub fn reserve(&mut self, more: usize) -> Result<(), AllocError>
+        ensures room { OnOk result (more ≤ spare self.new) }
+        ensures kept { spare self.old ≤ spare self.new }
+        ensures packets { packets_of self.new ≡ packets_of self.old }
+    {
+        self.queue.reserve(more)
+    }
+
+    /// Sends a packet, where there is room: it is the last. It takes no memory.
+    pub fn send(&mut self, packet: Packet)
+        requires { 1 ≤ spare self.old }
+        ensures packets { packets_of self.new ≡ packets_of self.old ++ packet ∷ [] }
+        ensures spare { spare self.new + 1 ≡ spare self.old }
+    {
+        self.queue.push_back_reserved(packet);
+    }
+
+    /// The oldest packet, if there is one.
+    pub fn first(&self) -> Option<&Packet>
+        ensures { option_copied result ≡ slice_get (packets_of self.now) 0 }
+    {
+        self.queue.front()
+    }
+
+    /// Takes the oldest packet, if there is one.
+    pub fn take(&mut self) -> Option<Packet>
+        ensures packets { packets_of self.old ≡ option_to_list result ++ packets_of self.new }
+        ensures kept { spare self.old ≤ spare self.new }
+    {
+        self.queue.pop_front()
+    }
+}
