@@ -26,10 +26,11 @@ pub record IsWithout (name : Name) (before after : List carried.Context) : Type 
   pub stands : (code : Code) → map (context_in code) after ≡ without_context name (map (context_in code) before)
   pub keeps : (p : carried.Context → Bool) → list_all p before ≡ true → list_all p after ≡ true
 
--- What one that left is: the one that had the name.
+-- What one that left is: the one that had the name. What holds of all that stood before holds of it.
 abbrev pub IsTaken : Name → List carried.Context → Option carried.Context → Type 0
 IsTaken name before None = (code : Code) → context_of name (map (context_in code) before) ≡ None
-IsTaken name before (Some x) = (code : Code) → context_of name (map (context_in code) before) ≡ Some (context_in code x)
+IsTaken name before (Some x) = ((code : Code) → context_of name (map (context_in code) before) ≡ Some (context_in code x))
+    × ((p : carried.Context → Bool) → list_all p before ≡ true → p x ≡ true)
 
 -- A context whose operation was not granted is late from its first such place on.
 abbrev pub with_late : Pos → Option Context → List Context → List Context

@@ -11,17 +11,6 @@ use std::alloc::AllocError;
 use threadlet_state::Context;
 use word_ops::{List, Name, Pos};
 
-/// Room for one name more.
-fn reserve_name(names: &mut List<Name>) -> Result<(), AllocError>
-    ensures { names.new ≡ names.old }
-{
-    let alloc = names.allocator();
-    let mut all = std::mem::replace(names, List::new(alloc)).into_vec();
-    let reserved = all.reserve(1);
-    *names = List::from_vec(all);
-    reserved
-}
-
 /// Puts a name before the i-th one. Want of memory changes nothing.
 fn insert_name(names: &mut List<Name>, i: usize, name: Name) -> Result<(), AllocError>
     requires { i ≤ length names.old }
@@ -69,14 +58,6 @@ impl Standing {
         ensures { IsPlace name (names_of self.now.contexts.items) result }
     {
         self.names.as_slice().binary_search(&name)
-    }
-
-    /// Room for one context more. No context changes, also where it is refused.
-    pub fn reserve(&mut self) -> Result<(), AllocError>
-        ensures { self.new.contexts.items ≡ self.old.contexts.items }
-    {
-        reserve_name(&mut self.names)?;
-        self.contexts.reserve(1)
     }
 
     /// The context takes the place of the one of its name, which takes no memory.

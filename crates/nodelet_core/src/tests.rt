@@ -1,11 +1,13 @@
-ghost use Rattle.std.specs.Prelude.{◌≡◌, ◌<◌, true, IfOk};
+ghost use Rattle.std.specs.Prelude.{◌≡◌, ◌<◌, true, Some, IfOk};
+ghost use Rattle.threadlet_code.specs.Operands.{params_of};
 ghost use Rattle.threadlet_code.specs.Verdict.{IsShort};
 ghost use Rattle.nodelet_core.specs.Kept.{all_fit};
 
 use super::{Next, Nodelet};
+use crate::standing::Standing;
 use std::alloc::{AllocError, Global};
 use threadlet_code::{Code, FuncCode, Instr, Verified, verify};
-use threadlet_state::{Body, Packet};
+use threadlet_state::{Body, Packet, started};
 use word_ops::{List, Name, Pos, Rules, Ticket};
 
 const HERE: Pos = Pos { line: 1, column: 1 };
@@ -17,7 +19,8 @@ const MAIN: Name = Name {
 
 /// Main returns 0 after its Turn.
 fn returns(alloc: Global) -> Result<Code, AllocError>
-    ensures { IfOk result IsShort }
+    ensures short { IfOk result IsShort }
+    ensures main { IfOk result (λ code. params_of code 0 ≡ Some 0) }
 {
     let mut body = List::new(alloc);
     body.extend_from_slice(&[Instr::Turn, Instr::Push(0), Instr::Return])?;
@@ -44,7 +47,8 @@ fn returns(alloc: Global) -> Result<Code, AllocError>
 /// Nodelet `number` of two before any event.
 fn nodelet(alloc: Global, number: u32, turns: u64) -> Result<(Nodelet, Verified), AllocError>
     requires { number < 2 }
-    ensures { IfOk result (λ made. all_fit made.1.code made.0 ≡ true) }
+    ensures fits { IfOk result (λ made. all_fit made.1.code made.0 ≡ true) }
+    ensures main { IfOk result (λ made. params_of made.1.code 0 ≡ Some 0) }
 {
     match verify(alloc, returns(alloc)?) {
         Err(_) => Err(AllocError),
@@ -103,5 +107,28 @@ fn a_strand_waits_where_no_turn_is_left(rt: HostRuntime) -> Result<(), AllocErro
     let (nodelet, code) = nodelet(rt.alloc(), 0, 0)?;
     assert!(rt; nodelet.next(&code, MAIN) == Next::Waits);
     assert!(rt; nodelet.lacks_turn(&code));
+    Ok(())
+}
+
+#[test]
+fn contexts_stand_in_the_order_of_their_names(rt: HostRuntime) -> Result<(), AllocError> {
+    let alloc = rt.alloc();
+    let (_, code) = nodelet(alloc, 0, 1)?;
+    let child = Name {
+        nodelet: 0,
+        number: 1,
+    };
+    let mut standing = Standing::new(alloc);
+    standing.add(started(alloc, &code, 0, &[], child, 0, None)?)?;
+    standing.add(started(alloc, &code, 0, &[], MAIN, 0, None)?)?;
+    assert_eq!(rt; standing.names().as_slice(), [MAIN, child].as_slice());
+    standing.make_late(child, HERE);
+    assert!(rt; standing.leave(MAIN).is_some());
+    assert!(rt; standing.leave(MAIN).is_none());
+    let late = match standing.find(child) {
+        Some(context) => context.late,
+        None => None,
+    };
+    assert_eq!(rt; late, Some(HERE));
     Ok(())
 }

@@ -68,6 +68,7 @@ fn words_stand_at_any_address(rt: HostRuntime) {
 #[test]
 fn a_grant_has_its_addresses_alone(rt: HostRuntime) {
     let mut words = Words::new(rt.alloc());
+    words.reserve_grant().expect(&rt, "memory");
     words.grant(8, 2).expect(&rt, "memory");
     for (address, granted) in [(7, false), (8, true), (9, true), (10, false)] {
         assert_eq!(rt; words.granted(address), granted, "at {address}");

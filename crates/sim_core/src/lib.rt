@@ -15,3 +15,6 @@ pub use laws::{
 };
 pub use machine::Core;
 pub use merge_law::Event;
+
+#[cfg(test)]
+mod tests;

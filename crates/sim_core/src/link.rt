@@ -10,7 +10,7 @@ pub(crate) struct Link {
 }
 
 impl Link {
-    ghost use Rattle.std.specs.Prelude.{◌≡◌, ◌+◌, ◌≤◌, [], ◌∷◌, ◌++◌, option_to_list, slice_get, OnOk};
+    ghost use Rattle.std.specs.Prelude.{◌≡◌, ◌+◌, ◌≤◌, [], ◌∷◌, ◌++◌, drop, slice_get, OnOk};
     ghost use Rattle.std.specs.Option.{option_copied};
     ghost use Rattle.sim_core.specs.Links.{packets_of, spare};
 
@@ -49,10 +49,11 @@ impl Link {
         self.queue.front()
     }
 
-    /// Takes the oldest packet, if there is one.
+    /// Takes the oldest packet, if there is one, and no room.
     pub fn take(&mut self) -> Option<Packet>
-        ensures packets { packets_of self.old ≡ option_to_list result ++ packets_of self.new }
-        ensures kept { spare self.old ≤ spare self.new }
+        ensures first { result ≡ slice_get (packets_of self.old) 0 }
+        ensures rest { packets_of self.new ≡ drop 1 (packets_of self.old) }
+        ensures room { spare self.old ≤ spare self.new }
     {
         self.queue.pop_front()
     }

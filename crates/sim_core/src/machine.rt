@@ -5,11 +5,13 @@ ghost use Rattle.sim_core.specs.Numbered.{AreNumbered};
 
 use crate::outgoing::Outgoing;
 use nodelet_core::Nodelet;
+use std::alloc::Global;
 use word_ops::Rules;
 
 /// All nodelets of a run and the links between them (docs/machine.md, "The core").
 #[derive(Drop)]
 pub struct Core {
+    pub(crate) alloc: Global,
     pub(crate) count: u32,
     pub(crate) turns: u64,
     pub(crate) rules: Rules,

@@ -11,17 +11,17 @@ use crate::link::Link;
 use crate::machine::Core;
 use crate::outgoing::Outgoing;
 use nodelet_core::Nodelet;
-use std::alloc::{AllocError, Global};
+use std::alloc::AllocError;
 use threadlet_state::Body;
 use word_ops::{List, Name};
 
 impl Core {
     /// The names of the contexts at all nodelets in order, and then on all links in order (docs/machine.md,
     /// "The core").
-    pub fn census(&self, alloc: Global) -> Result<List<Name>, AllocError>
+    pub fn census(&self) -> Result<List<Name>, AllocError>
         ensures { IfOk result (λ names. (code : Code) → names ≡ core.census (setup_in code self.now) (core_in code self.now)) }
     {
-        let mut names = List::new(alloc);
+        let mut names = List::new(self.alloc);
         add_standing(&mut names, self.nodes.as_slice())?;
         add_travelling(&mut names, self.links.as_slice())?;
         Ok(names)

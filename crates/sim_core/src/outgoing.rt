@@ -12,9 +12,9 @@ pub(crate) struct Outgoing {
 }
 
 impl Outgoing {
-    ghost use Rattle.std.specs.Prelude.{◌≡◌, ◌≢◌, ℕ, ◌++◌, true, length, option_to_list, slice_get, IfOk};
+    ghost use Rattle.std.specs.Prelude.{◌≡◌, ◌≢◌, ◌≤◌, ℕ, true, length, drop, slice_get, IfOk};
     ghost use Rattle.std.specs.Option.{option_copied};
-    ghost use Rattle.sim_core.specs.Links.{has_links, are_clear, reaches, packets_to};
+    ghost use Rattle.sim_core.specs.Links.{has_links, are_clear, reaches, packets_to, spare_to};
 
     /// Links to `n` nodelets, with no packet on them; they grow on `alloc`.
     pub fn new(alloc: Global, n: u32) -> Result<Outgoing, AllocError>
@@ -36,11 +36,14 @@ impl Outgoing {
         self.links[to as usize].first()
     }
 
-    /// Takes the oldest packet on the link to the nodelet `to`, if there is one; all other links stay.
+    /// Takes the oldest packet on the link to the nodelet `to`, if there is one; all other links stay, and no
+    /// room is lost.
     pub fn take(&mut self, to: u32) -> Option<Packet>
         requires { reaches self.old to ≡ true }
-        ensures packets { packets_to self.old to ≡ option_to_list result ++ packets_to self.new to }
+        ensures first { result ≡ slice_get (packets_to self.old to) 0 }
+        ensures rest { packets_to self.new to ≡ drop 1 (packets_to self.old to) }
         ensures elsewhere { (k : ℕ) → k ≢ to → packets_to self.new k ≡ packets_to self.old k }
+        ensures room { (k : ℕ) → spare_to self.old k ≤ spare_to self.new k }
         ensures count { length self.new.links.items ≡ length self.old.links.items }
     {
         self.links[to as usize].take()

@@ -35,6 +35,7 @@ impl Core {
         let nodes = first_nodes(alloc, n, turns, code, rules)?;
         let links = first_links(alloc, n)?;
         Ok(Core {
+            alloc,
             count: n,
             turns,
             rules,
