@@ -30,14 +30,11 @@ pub record Hint : Type 0 where
 --   Sync d                  joins the children of the activation at depth d
 --   End v, Trap at kind     the last action of a strand
 pub data Action : Type 0 where
-  Turn : Action
-  Load : Pos → ℤ → Action
+  Turn Fence Where : Action
+  Load Move : Pos → ℤ → Action
   Issue : Pos → Op → ℤ → ℤ → Action
   Fetch : Pos → FetchOp → ℤ → Action
   Init : Pos → ℤ → ℤ → Action
-  Fence : Action
-  Move : Pos → ℤ → Action
-  Where : Action
   Print : List ℕ → Action
   Alloc : Request → Action
   Spawn : ℕ → ℕ → List ℤ → Option Hint → Action

@@ -91,14 +91,13 @@ table n counted = flat_map (λ i. map (λ j. count_by (λ x. x.0 == i && x.1 == 
 -- The traffic of a run.
 abbrev pub traffic_of : Setting → List Step → Traffic
 traffic_of u told =
-    let n = u.nodelets in
     let ts = transitions u (start u) told in
     record {
-      n = n;
-      moves = table n (flat_map (λ t. moves_in t.before t.after t.done) ts);
-      births = table n (flat_map (λ t. by_action u t.before (λ _. births_of n) t.done) ts);
-      posts = table n (flat_map (λ t. by_action u t.before (λ _. posts_of n) t.done) ts);
-      dones = table n (flat_map (λ t. by_action u t.before (dones_of t.before) t.done) ts);
-      turns = tally n (flat_map (λ t. by_action u t.before (λ _. turns_of) t.done) ts);
-      applied = tally n (flat_map (λ t. applied_in u t.before t.done) ts);
+      n = u.nodelets;
+      moves = table u.nodelets (flat_map (λ t. moves_in t.before t.after t.done) ts);
+      births = table u.nodelets (flat_map (λ t. by_action u t.before (λ _. births_of u.nodelets) t.done) ts);
+      posts = table u.nodelets (flat_map (λ t. by_action u t.before (λ _. posts_of u.nodelets) t.done) ts);
+      dones = table u.nodelets (flat_map (λ t. by_action u t.before (dones_of t.before) t.done) ts);
+      turns = tally u.nodelets (flat_map (λ t. by_action u t.before (λ _. turns_of) t.done) ts);
+      applied = tally u.nodelets (flat_map (λ t. applied_in u t.before t.done) ts);
     }
