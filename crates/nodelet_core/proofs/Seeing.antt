@@ -33,7 +33,7 @@ module _ (f : ℕ → Option ℤ) where
       ∙ ap (λ b. b && (is_some (f n) && true)) (all_there n (λ o less. h o (omega (arith, less))))
       ∙ ap (λ b. b && true) (h n (omega arith))
 
-  each_there : (n : ℕ) → list_all (λ o. is_some (f o)) (below n) ≡ true → (o : ℕ) → o < n → is_some (f o) ≡ true
+  pub each_there : (n : ℕ) → list_all (λ o. is_some (f o)) (below n) ≡ true → (o : ℕ) → o < n → is_some (f o) ≡ true
   each_there zero e o less = absurd (omega (arith, less))
   each_there (suc n) e o less =
       go (list_all (λ k. is_some (f k)) (below n)) (is_some (f n)) (sym (list_all-append (λ k. is_some (f k)) (below n) (n ∷ [])) ∙ e) refl refl (o == n) refl (λ h k. each_there n h o k)

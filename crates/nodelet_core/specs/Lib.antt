@@ -11,3 +11,8 @@ pub mod Standing
 pub mod Changed
 pub mod Tallied
 pub mod Kept
+pub mod Left
+pub mod Counted
+pub mod Became
+pub mod Doing
+pub mod Told

@@ -1,16 +1,10 @@
 -- The operands of the instruction before which a frame stands.
-use Rattle.std.specs.Prelude.{◌≡◌, ◌<◌, ◌-◌, ℕ, ℤ, List, [], take, drop, reverse, length, Some}
+use Rattle.std.specs.Prelude.{◌≡◌, ◌-◌, ℕ, ℤ, List, [], take, drop, reverse, length, Some}
 use Rattle.threadlet_code.specs.declared.instr.Instr.{Instr}
 use Rattle.threadlet_code.specs.declared.instr.Instr.TheVariants.{Spawn}
-use Rattle.threadlet_code.specs.declared.code.Code.{Code}
-use Rattle.threadlet_code.specs.Naming.{function_named}
 use Rattle.threadlet_code.specs.Operands.{own_operands, hint_operands, taken}
 use Rattle.threadlet_state.specs.declared.frame.Frame.{Frame}
 use Rattle.threadlet_state.specs.Activations.{activation}
-
--- A function that an instruction names is there.
-abbrev pub NamesWhatIsThere : Code → Instr → Type 0
-NamesWhatIsThere code instr = (g : ℕ) → function_named instr ≡ Some g → g < length code.functions
 
 -- Words are so many operands off the stack of a frame that has so many slots.
 pub record AreTop (slots : ℕ) (frame : Frame) (count : ℕ) (words : List ℤ) : Type 0 where

@@ -1,6 +1,6 @@
 //! Contexts come, change and go.
 
-ghost use Rattle.std.specs.Prelude.{◌≡◌, ◌<◌, ◌≤◌, length, Contains, OnOk, OnErr};
+ghost use Rattle.std.specs.Prelude.{◌≡◌, ◌<◌, ◌≤◌, length, Contains, IfErr, OnOk, OnErr};
 ghost use Rattle.std.specs.List.{insert, remove};
 ghost use Rattle.world_model.specs.Step.{late_after};
 ghost use Rattle.nodelet_core.specs.Standing.{names_of};
@@ -9,7 +9,7 @@ ghost use Rattle.nodelet_core.specs.Changed.{IsPlace, IsWith, IsWithout, IsTaken
 use crate::standing::Standing;
 use std::alloc::AllocError;
 use threadlet_state::Context;
-use word_ops::{List, Name, Pos};
+use word_ops::{Box, List, Name, Pos};
 
 /// Puts a name before the i-th one. Want of memory changes nothing.
 fn insert_name(names: &mut List<Name>, i: usize, name: Name) -> Result<(), AllocError>
@@ -60,13 +60,14 @@ impl Standing {
         self.names.as_slice().binary_search(&name)
     }
 
-    /// The context takes the place of the one of its name, which takes no memory.
-    pub fn replace(&mut self, x: Context)
+    /// The context takes the place of the one of its name, which is handed out. Takes no memory.
+    pub fn replace(&mut self, x: Context) -> Option<Context>
         requires { Contains (names_of self.old.contexts.items) x.name }
         ensures { IsWith x self.old.contexts.items self.new.contexts.items }
     {
-        if let Ok(i) = self.place(x.name) {
-            self.contexts[i] = x;
+        match self.place(x.name) {
+            Ok(i) => Some(std::mem::replace(&mut self.contexts[i], x)),
+            Err(_) => None,
         }
     }
 
@@ -85,6 +86,29 @@ impl Standing {
                 self.contexts.reserve(1)?;
                 insert_name(&mut self.names, i, x.name)?;
                 self.contexts.insert(i, x).unwrap();
+                Ok(())
+            }
+        }
+    }
+
+    /// The same of a context that was sent. Want of memory hands it back and leaves the others.
+    pub fn arrive(&mut self, x: Box<Context>) -> Result<(), Box<Context>>
+        ensures ok { OnOk result (IsWith x self.old.contexts.items self.new.contexts.items) }
+        ensures err { OnErr result (self.new.contexts.items ≡ self.old.contexts.items) }
+        ensures handed_back { IfErr result (λ back. back ≡ x) }
+    {
+        match self.place(x.name) {
+            Ok(i) => {
+                self.contexts[i] = x.into_inner();
+                Ok(())
+            }
+            Err(i) => {
+                if self.contexts.reserve(1).is_err()
+                    || insert_name(&mut self.names, i, x.name).is_err()
+                {
+                    return Err(x);
+                }
+                self.contexts.insert(i, x.into_inner()).unwrap();
                 Ok(())
             }
         }

@@ -16,10 +16,10 @@ ghost use Rattle.nodelet_core.specs.declared.due.Due.TheVariants as due;
 ghost use Rattle.nodelet_core.specs.Operands.{needs};
 ghost use Rattle.nodelet_core.specs.Runs.{action_in};
 
-use crate::operands::{count_of, top_words};
+use crate::operands::top_words;
 use mem_atomics::{FetchOp, Op};
 use threadlet_code::{AllocCode, Code, Instr, Verified};
-use threadlet_state::{Context, Frame};
+use threadlet_state::{Context, Frame, operand_count};
 use word_ops::{BinaryOp, List, Pos, TrapKind, binary};
 
 /// The most activations that a strand has at a time.
@@ -123,7 +123,7 @@ fn due_of_frames(frames: &List<Frame>, code: &Code) -> Option<Due>
             Some(ended(top_words(frame, f, 1)))
         }
         Instr::Bin(op) => undivided(pos, op, top_words(frame, f, 2)),
-        instr => due_on(pos, instr, top_words(frame, f, count_of(code, instr))),
+        instr => due_on(pos, instr, top_words(frame, f, operand_count(code, instr))),
     }
 }
 

@@ -4,12 +4,22 @@
 
 mod awaiting;
 mod changing;
+mod children;
+mod contexts;
+mod counting;
+mod deliver;
 mod due;
+mod effect;
 mod going;
+mod keeping;
+mod memory;
 mod next;
 mod nodelet;
 mod operands;
 mod reading;
+mod run;
+mod sending;
+mod services;
 mod sight;
 mod standing;
 mod start;

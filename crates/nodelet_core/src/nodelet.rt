@@ -10,6 +10,7 @@ use nodelet_mem::Words;
 use service::Services;
 use spawn_tree::Joins;
 use std::alloc::Global;
+use threadlet_state::Frame;
 use word_ops::{Counts3, Entry, List, Rules};
 
 /// A nodelet: its words and grants, the contexts that stand at it, what it keeps of their children and of what
@@ -34,6 +35,8 @@ pub struct Nodelet {
     pub(crate) first_trap: Option<Trapped>,
     pub(crate) stamp: u64,
     pub(crate) entries: List<Entry>,
+    // Frames that are no longer needed, in whose memory the next copy is made.
+    pub(crate) room: List<Frame>,
     ghost here: { number < nodelets },
     ghost few: { nodelets ≤ 64 },
     ghost among: { are_among nodelets standing.contexts.items ≡ true },

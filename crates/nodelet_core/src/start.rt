@@ -79,6 +79,7 @@ impl Nodelet {
             first_trap: None,
             stamp: 0,
             entries: List::new(alloc),
+            room: List::new(alloc),
         })
     }
 }

@@ -89,3 +89,10 @@ pub mod NotStuck
 pub mod AtPlaces
 pub mod FirstCore
 pub mod CensusKept
+pub mod Legal
+pub mod Linked
+pub mod Listing
+pub mod Playing
+pub mod Outcomes
+pub mod Runnable
+pub mod Taken

@@ -27,14 +27,16 @@ setting_of u = record { meaning = meaning_of u.code; nodelets = u.nodelets; turn
 abbrev pub is_legal : Setup → Core → Event → Bool
 is_legal u c event = is_some (merge.after (machine_of u) c event)
 
--- The events at a nodelet: a run of each context, then a take from each nodelet.
-abbrev pub events_at : Setup → Core → ℕ → List Event
-events_at u c k =
-    map (λ x. Run k x.name) (c.nodes k).contexts ++ map (λ origin. Take origin k) (below u.nodelets)
+-- The legal runs of the contexts at a nodelet, by name, and its legal takes, by origin.
+abbrev pub runs_at : Setup → Core → ℕ → List Event
+runs_at u c k = filter (is_legal u c) (map (λ x. Run k x.name) (c.nodes k).contexts)
 
--- The legal events by nodelet, in each nodelet first its runs by name, then its takes by origin.
+abbrev pub takes_at : Setup → Core → ℕ → List Event
+takes_at u c k = filter (is_legal u c) (map (λ origin. Take origin k) (below u.nodelets))
+
+-- The legal events by nodelet, in each nodelet first its runs, then its takes.
 abbrev pub legal_events : Setup → Core → List Event
-legal_events u c = flat_map (λ k. filter (is_legal u c) (events_at u c k)) (below u.nodelets)
+legal_events u c = flat_map (λ k. runs_at u c k ++ takes_at u c k) (below u.nodelets)
 
 -- ---- whose contexts there are
 

@@ -8,3 +8,4 @@ pub mod Links
 pub mod Numbered
 pub mod Kept
 pub mod Named
+pub mod Advanced

@@ -2,6 +2,7 @@
 //! run of the code's meaning (docs/machine.md, "The core").
 #![tactic(auto)]
 
+mod advancing;
 mod laws;
 mod link;
 mod machine;

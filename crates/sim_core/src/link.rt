@@ -10,7 +10,7 @@ pub(crate) struct Link {
 }
 
 impl Link {
-    ghost use Rattle.std.specs.Prelude.{◌≡◌, ◌+◌, ◌≤◌, [], ◌∷◌, ◌++◌, drop, slice_get, OnOk};
+    ghost use Rattle.std.specs.Prelude.{◌≡◌, ◌+◌, ◌≤◌, [], ◌∷◌, ◌++◌, drop, slice_get, IsSome, OnOk};
     ghost use Rattle.std.specs.Option.{option_copied};
     ghost use Rattle.sim_core.specs.Links.{packets_of, spare};
 
@@ -54,7 +54,16 @@ impl Link {
         ensures first { result ≡ slice_get (packets_of self.old) 0 }
         ensures rest { packets_of self.new ≡ drop 1 (packets_of self.old) }
         ensures room { spare self.old ≤ spare self.new }
+        ensures place { IsSome result → 1 ≤ spare self.new }
     {
         self.queue.pop_front()
+    }
+
+    /// Puts a packet back that was taken, where there is room: it is the oldest again. It takes no memory.
+    pub fn put_back(&mut self, packet: Packet)
+        requires { 1 ≤ spare self.old }
+        ensures packets { packets_of self.new ≡ packet ∷ packets_of self.old }
+    {
+        self.queue.push_front(packet).unwrap();
     }
 }

@@ -12,7 +12,7 @@ pub(crate) struct Outgoing {
 }
 
 impl Outgoing {
-    ghost use Rattle.std.specs.Prelude.{◌≡◌, ◌≢◌, ◌≤◌, ℕ, true, length, drop, slice_get, IfOk};
+    ghost use Rattle.std.specs.Prelude.{◌≡◌, ◌≢◌, ◌≤◌, ℕ, ◌∷◌, true, length, drop, slice_get, IsSome, IfOk};
     ghost use Rattle.std.specs.Option.{option_copied};
     ghost use Rattle.sim_core.specs.Links.{has_links, are_clear, reaches, packets_to, spare_to};
 
@@ -44,9 +44,22 @@ impl Outgoing {
         ensures rest { packets_to self.new to ≡ drop 1 (packets_to self.old to) }
         ensures elsewhere { (k : ℕ) → k ≢ to → packets_to self.new k ≡ packets_to self.old k }
         ensures room { (k : ℕ) → spare_to self.old k ≤ spare_to self.new k }
+        ensures place { IsSome result → 1 ≤ spare_to self.new to }
         ensures count { length self.new.links.items ≡ length self.old.links.items }
     {
         self.links[to as usize].take()
+    }
+
+    /// Puts a packet back that was taken from the link to the nodelet `to`, where there is room: it is the oldest
+    /// there again. It takes no memory.
+    pub fn put_back(&mut self, to: u32, packet: Packet)
+        requires reaches { reaches self.old to ≡ true }
+        requires room { 1 ≤ spare_to self.old to }
+        ensures packets { packets_to self.new to ≡ packet ∷ packets_to self.old to }
+        ensures elsewhere { (k : ℕ) → k ≢ to → packets_to self.new k ≡ packets_to self.old k }
+        ensures count { length self.new.links.items ≡ length self.old.links.items }
+    {
+        self.links[to as usize].put_back(packet);
     }
 }
 

@@ -6,6 +6,7 @@ ghost use Rattle.sim_core.specs.Core.{start_core};
 ghost use Rattle.sim_core.specs.Links.{has_links, are_clear};
 ghost use Rattle.sim_core.specs.Numbered.{AreFirst};
 ghost use Rattle.sim_core.specs.Kept.{setup_in, core_in, core_fits};
+ghost use Rattle.sim_core.specs.Advanced.{IsReached};
 
 use crate::machine::Core;
 use crate::outgoing::Outgoing;
@@ -31,6 +32,7 @@ impl Core {
         ensures turns { IfOk result (λ it. it.turns ≡ turns) }
         ensures rules { IfOk result (λ it. it.rules ≡ rules) }
         ensures fits { IfOk result (λ it. core_fits code.now.code it ≡ true) }
+        ensures reached { IfOk result (λ it. IsReached code.now.code it) }
     {
         let nodes = first_nodes(alloc, n, turns, code, rules)?;
         let links = first_links(alloc, n)?;

@@ -142,6 +142,17 @@ module _ {code : Code} {before : List Frame} {frame : Frame} {callers : List Fra
         let same : frame.top + 0 ≡ frame.top = omega arith in
         top_known code frame f 0 all_fit.0 known (stack_size f frame laid) ∙ ap Some same
 
+    -- Where its place is taken by another of its function.
+    module _ (after : List Frame) (next : Frame) (becomes : reverse after ≡ next ∷ callers) (same : next.function ≡ frame.function) where
+      next_known : slice_get code.functions next.function ≡ Some f
+      next_known = ap (slice_get code.functions) same ∙ known
+
+      pub state_with : state_of code after ≡ activation f.slots next ∷ under
+      state_with = ap (map (activation_in code)) becomes ∙ ap (λ (x : machine.Frame). x ∷ under) (as_activation code next f next_known)
+
+      pub laid_with : IsLaidOut f next → AreLaidOut code (reverse after)
+      laid_with well = subst (AreLaidOut code) (sym becomes) ((λ g e. subst (λ (h : FuncCode). IsLaidOut h next) (same_Some f g (sym next_known ∙ e)) well), laid_under)
+
     pub place_there : frame.at < length f.body
     place_there = (heights_lead code d.sound frame.function f known).inside frame.at frame.top top_at
 

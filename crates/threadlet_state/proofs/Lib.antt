@@ -7,4 +7,7 @@ pub mod Stepped
 pub mod Entering
 pub mod Here
 pub mod Going
+pub mod Halted
+pub mod Bringing
+pub mod Resumed
 mod StepExamples

@@ -96,7 +96,7 @@ moves_frames (by.Call function) = true
 moves_frames by.Return = true
 moves_frames _ = false
 
-acts_of : (code : Code) (at : Pos) (depth : ℕ) (instr : Instr) → stays instr ≡ false → moves_frames instr ≡ false → (words : List ℤ) → (action : Action) × (action_of code at depth instr words ≡ Some action)
+pub acts_of : (code : Code) (at : Pos) (depth : ℕ) (instr : Instr) → stays instr ≡ false → moves_frames instr ≡ false → (words : List ℤ) → (action : Action) × (action_of code at depth instr words ≡ Some action)
 acts_of code at depth (by.Push word) s m words = absurd (let wrong : true ≡ false = s in cc)
 acts_of code at depth (by.Get slot) s m words = absurd (let wrong : true ≡ false = s in cc)
 acts_of code at depth (by.Set slot) s m words = absurd (let wrong : true ≡ false = s in cc)

@@ -71,14 +71,8 @@ module _ {code : Code} {before : List Frame} {frame : Frame} {callers : List Fra
       stepped_here after next becomes same well leads =
           stepped after
           (subst (λ n. LeadsTo n (state_of code after)) (sym done_is)
-          (subst (LeadsTo done) (sym after_is) (leads code (place_in f frame.at) under)))
-          (subst (AreLaidOut code) (sym becomes) ((λ g e. subst (λ (h : FuncCode). IsLaidOut h next) (same_Some f g (sym there ∙ e)) well), deep.laid_under d))
-        where
-          there : slice_get code.functions next.function ≡ Some f
-          there = ap (slice_get code.functions) same ∙ known
-
-          after_is : state_of code after ≡ activation f.slots next ∷ under
-          after_is = ap (map (activation_in code)) becomes ∙ ap (λ (x : machine.Frame). x ∷ under) (as_activation code next f there)
+          (subst (LeadsTo done) (sym (deep.state_with d f known after next becomes same)) (leads code (place_in f frame.at) under)))
+          (deep.laid_with d f known after next becomes same well)
 
     -- ---- a call
 

@@ -1,3 +1,4 @@
 pub mod Activations
 pub mod Fit
 pub mod Silent
+pub mod Answered

@@ -141,14 +141,14 @@ fn call(frames: &mut List<Frame>, code: &Code, function: u32) -> Result<(), Allo
     Ok(())
 }
 
-/// The frame of a caller goes on behind its call, without the arguments.
-fn leave_behind(caller: &mut Frame, args: u32)
-    requires args { args ≤ caller.old.top }
-    requires next_place { caller.old.at + 1 < 2 ^ 32 }
-    ensures { caller.new ≡ record caller.old { top = caller.old.top - args; at = caller.old.at + 1 } }
+/// A frame goes on behind its instruction, without its operands.
+pub(crate) fn leave_behind(frame: &mut Frame, operands: u32)
+    requires operands { operands ≤ frame.old.top }
+    requires next_place { frame.old.at + 1 < 2 ^ 32 }
+    ensures { frame.new ≡ record frame.old { top = frame.old.top - operands; at = frame.old.at + 1 } }
 {
-    caller.top -= args;
-    caller.at += 1;
+    frame.top -= operands;
+    frame.at += 1;
 }
 
 /// Returns from the deepest frame, which has a caller.

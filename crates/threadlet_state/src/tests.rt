@@ -1,86 +1,21 @@
-ghost use Rattle.std.specs.Prelude.{◌≡◌, ◌<◌, ◌^◌, Some, length, IfOk};
-ghost use Rattle.threadlet_code.specs.Verdict.{IsShort};
-ghost use Rattle.threadlet_code.specs.Operands.{params_of};
+mod programs;
 
-use super::{Context, Packet, fits, is_silent, started, step_silent};
-use std::alloc::{AllocError, Global};
-use threadlet_code::{Code, FuncCode, Instr, Verified, verify};
-use word_ops::{BinaryOp, Box, List, Name, Pos, UnaryOp};
+ghost use Rattle.std.specs.Prelude.{◌≡◌, true};
+ghost use Rattle.threadlet_code.specs.Machine.{step};
+ghost use Rattle.threadlet_state.specs.Activations.{state_of};
+ghost use Rattle.threadlet_state.specs.Answered.{is_asked};
+ghost use Rattle.threadlet_state.specs.Fit.{frames_fit};
 
-const HERE: Pos = Pos { line: 1, column: 1 };
+use super::{Context, Packet, answer, copied, fits, is_silent, run_silent, started, step_silent};
+use programs::{difference, family};
+use std::alloc::AllocError;
+use threadlet_code::{Instr, Verified, verify};
+use word_ops::{Box, Name};
 
 const MAIN: Name = Name {
     nodelet: 0,
     number: 0,
 };
-
-/// A function that spawns nothing, with a stack of two words at most.
-fn function(alloc: Global, params: u32, slots: u32, body: &[Instr]) -> Result<FuncCode, AllocError>
-    requires { length body.now < 2 ^ 32 }
-    ensures params { IfOk result (λ f. f.params ≡ params) }
-    ensures short { IfOk result (λ f. length f.body < 2 ^ 32) }
-{
-    let mut instrs = List::new(alloc);
-    instrs.extend_from_slice(body)?;
-    let places = List::from_vec(vec![in alloc; HERE; body.len()]?);
-    Ok(FuncCode {
-        params,
-        slots,
-        height: 2,
-        spawns: false,
-        body: instrs,
-        places,
-    })
-}
-
-/// Main takes 3 from 9 in a function of its own, keeps the difference in its slot, and negates it.
-fn difference(alloc: Global) -> Result<Code, AllocError>
-    ensures short { IfOk result IsShort }
-    ensures main { IfOk result (λ code. params_of code 0 ≡ Some 0) }
-{
-    let main = [
-        Instr::Turn,
-        Instr::Push(9),
-        Instr::Push(3),
-        Instr::Call(1),
-        Instr::Dup,
-        Instr::Set(0),
-        Instr::JumpZero(9),
-        Instr::Get(0),
-        Instr::Jump(10),
-        Instr::Push(1),
-        Instr::Un(UnaryOp::Neg),
-        Instr::Dup,
-        Instr::Pop,
-        Instr::Return,
-    ];
-    let less = [
-        Instr::Turn,
-        Instr::Get(0),
-        Instr::Get(1),
-        Instr::Bin(BinaryOp::Sub),
-        Instr::Return,
-    ];
-    let mut functions = List::new(alloc);
-    functions.add(function(alloc, 0, 1, &main)?)?;
-    functions.add(function(alloc, 2, 2, &less)?)?;
-    Ok(Code {
-        functions,
-        main: 0,
-        formats: List::new(alloc),
-        globals: 0,
-        replicated: 0,
-    })
-}
-
-/// The deepest frame stands behind its first instruction.
-fn pass_turn(context: &mut Context) -> Result<(), AllocError> {
-    if let Some(mut frame) = context.frames.pop() {
-        frame.at = 1;
-        context.frames.add(frame)?;
-    }
-    Ok(())
-}
 
 /// How many silent instructions came next, up to 100; they are done.
 fn run_on(context: &mut Context, code: &Verified) -> Result<u64, AllocError> {
@@ -102,7 +37,7 @@ fn a_strand_calls_and_returns_between_its_turns(rt: HostRuntime) -> Result<(), A
             let mut context = started(rt.alloc(), &code, 0, &[], MAIN, 2, None)?;
             assert!(rt; fits(&context, &code));
             assert_eq!(rt; run_on(&mut context, &code)?, 0);
-            pass_turn(&mut context)?;
+            assert_eq!(rt; reply(&mut context, &code, &[])?, 0);
             assert_eq!(rt; run_on(&mut context, &code)?, 3);
             assert_eq!(rt; context.frames.len(), 2);
             assert_eq!(rt; context.frames.at(0).at, 4);
@@ -110,13 +45,96 @@ fn a_strand_calls_and_returns_between_its_turns(rt: HostRuntime) -> Result<(), A
                 context.frames.at(1).words.as_slice(),
                 [9, 3, 0, 0].as_slice()
             );
-            pass_turn(&mut context)?;
+            assert_eq!(rt; reply(&mut context, &code, &[])?, 0);
             assert_eq!(rt; run_on(&mut context, &code)?, 12);
             assert_eq!(rt; context.frames.len(), 1);
             let frame = context.frames.at(0);
             assert_eq!(rt; frame.at, 13);
             assert_eq!(rt; frame.top, 1);
             assert_eq!(rt; frame.words.as_slice(), [6, -6, -6].as_slice());
+            Ok(())
+        }
+    }
+}
+
+/// The next instruction of a context is an action of those that a family makes.
+fn is_before_action(context: &Context, code: &Verified) -> bool
+    requires { frames_fit code.now.code context.now.frames ≡ true }
+    ensures { result ≡ true → is_asked (step code.now.code (state_of code.now.code context.now.frames)) ≡ true }
+{
+    let text = code.code();
+    let frame = context.frames.at(context.frames.len() - 1);
+    let f = text.functions.at(frame.function as usize);
+    match *f.body.at(frame.at as usize) {
+        Instr::Turn | Instr::Load | Instr::Spawn { .. } | Instr::Sync => true,
+        _ => false,
+    }
+}
+
+/// Answers the next action of a context, behind the silent instructions before it; says how many these were.
+fn reply(context: &mut Context, code: &Verified, words: &[i64]) -> Result<u64, AllocError> {
+    if !fits(context, code) {
+        return Err(AllocError);
+    }
+    let done = run_silent(context, code)?;
+    if !is_before_action(context, code) {
+        return Err(AllocError);
+    }
+    answer(context, code, words)?;
+    Ok(done)
+}
+
+/// The deepest frame of a context has these places, words and targets.
+fn stands(context: &Context, at: u32, top: u32, words: &[i64], targets: &[Option<u32>]) -> bool {
+    match context.frames.as_slice().last() {
+        None => false,
+        Some(frame) => {
+            frame.at == at
+                && frame.top == top
+                && frame.words.as_slice() == words
+                && frame.targets.as_slice() == targets
+        }
+    }
+}
+
+#[test]
+fn words_are_answered_to_the_stack_and_results_to_their_slots(
+    rt: HostRuntime,
+) -> Result<(), AllocError> {
+    let code = family(rt.alloc())?;
+    match verify(rt.alloc(), code) {
+        Err(_) => Err(AllocError),
+        Ok(code) => {
+            let mut context = started(rt.alloc(), &code, 0, &[], MAIN, 2, None)?;
+            reply(&mut context, &code, &[])?;
+            assert_eq!(rt; reply(&mut context, &code, &[5, 6])?, 2);
+            assert!(rt; stands(&context, 4, 2, &[0, 0, 7, 5], &[]));
+            for _ in 0..3 {
+                reply(&mut context, &code, &[])?;
+            }
+            assert!(rt; stands(&context, 11, 1, &[0, 0, 2, 3], &[Some(1), None, Some(0)]));
+            reply(&mut context, &code, &[11, 22, 33])?;
+            assert!(rt; stands(&context, 12, 1, &[33, 11, 2, 3], &[]));
+            Ok(())
+        }
+    }
+}
+
+#[test]
+fn a_copy_in_the_room_of_more_frames_is_the_context(rt: HostRuntime) -> Result<(), AllocError> {
+    let code = difference(rt.alloc())?;
+    match verify(rt.alloc(), code) {
+        Err(_) => Err(AllocError),
+        Ok(code) => {
+            let mut larger = started(rt.alloc(), &code, 0, &[], MAIN, 2, None)?;
+            reply(&mut larger, &code, &[])?;
+            run_on(&mut larger, &code)?;
+            assert_eq!(rt; larger.frames.len(), 2);
+            let context = started(rt.alloc(), &code, 0, &[], MAIN, 5, None)?;
+            let copy = copied(&context, larger.frames)?;
+            assert_eq!(rt; copy.home, 5);
+            assert_eq!(rt; copy.frames.len(), 1);
+            assert!(rt; stands(&copy, 0, 0, &[0, 0, 0], &[]));
             Ok(())
         }
     }

@@ -120,15 +120,15 @@ returns-in-Print c =
     print_asks code (place_in f frame.at) (activation f.slots frame) (under d) i (λ e. never_stuck code c.requires.sound (state_of code c.args.frames.now) (fits d).0 (is ∙ e))
     ∙ sym (ap due_in is)
 
-pub count_of-requires : goal.count_of-requires
-count_of-requires c =
+pub operand_count-requires : goal.operand_count-requires
+operand_count-requires c =
     let d = deepest c.args.code.now c.requires.sound c.args.frames.now c.requires.fits c.len-depth.result c.len-depth.ensures c.at-frame.result.now c.at-frame.ensures in
     let code = c.args.code.now in
     let frame = c.at-frame.result.now in
     let f = c.at-f.result.now in
     record {
-      there = λ g e. (keeps_rules code c.requires.sound frame.function f c.at-f.ensures).functions frame.at g (ap (option_and_then function_named) c.at.ensures ∙ e);
-      no_print = no_format c.at.result.now c.in_default.not-Print;
+      function = λ g e. (keeps_rules code c.requires.sound frame.function f c.at-f.ensures).functions frame.at g (ap (option_and_then function_named) c.at.ensures ∙ e);
+      format = λ i e. absurd (let wrong : None ≡ Some i = sym (no_format c.at.result.now c.in_default.not-Print) ∙ e in cc);
     }
 
 pub top_words-requires-in_default : goal.top_words-requires-in_default
@@ -137,7 +137,7 @@ top_words-requires-in_default c =
     let code = c.args.code.now in
     let frame = c.at-frame.result.now in
     let f = c.at-f.result.now in
-    record { laid = laid d f c.at-f.ensures; enough = enough d f c.at-f.ensures c.at.result.now c.at.ensures c.count_of.result c.count_of.ensures }
+    record { laid = laid d f c.at-f.ensures; enough = enough d f c.at-f.ensures c.at.result.now c.at.ensures c.operand_count.result c.operand_count.ensures }
 
 pub returns-in_default : goal.returns-in_default
 returns-in_default c =
@@ -151,5 +151,5 @@ returns-in_default c =
     c.due_on.ensures code (suc (length (under d)))
     ∙ ap (λ p. option_map due_of (action_of code p (suc (length (under d))) instr words)) (sym place)
     ∙ sym (ap (option_map due_of) (plain_asks code (place_in f frame.at) (activation f.slots frame) (under d) instr c.in_default.not-Bin c.in_default.not-Call c.in_default.not-Return
-    c.count_of.result words _ c.count_of.ensures c.top_words-in_default.ensures.took))
+    c.operand_count.result words _ c.operand_count.ensures c.top_words-in_default.ensures.took))
     ∙ sym (ap due_in (step_is d f c.at-f.ensures instr c.at.ensures))

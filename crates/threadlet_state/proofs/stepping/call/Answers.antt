@@ -49,8 +49,8 @@ entered-requires c =
     let size = length-take-le (end - (end - h.params)) (drop (end - h.params) c.as_slice.result.now) (omega (arith, some, well.words, well.top, ap length c.as_slice.ensures, length-drop (end - h.params) c.as_slice.result.now)) in
     omega (arith, size, some, params_fit c.args.code.now c.requires.sound c.args.function h c.at-callee.ensures)
 
-pub leave_behind-requires-clause-args : goal.leave_behind-requires-clause-args
-leave_behind-requires-clause-args c =
+pub leave_behind-requires-clause-operands : goal.leave_behind-requires-clause-operands
+leave_behind-requires-clause-operands c =
     let d = deepest c.args.code.now c.requires.sound c.args.frames.now c.requires.silent.fits c.len-deepest.result c.len-deepest.ensures c.at-caller.result.now c.at-caller.ensures in
     let frame = c.at-caller.result.now in
     let f = c.at-f.result.now in
@@ -81,7 +81,7 @@ returns-clause-ok c =
     let before = c.args.frames.now in
     let n = c.len-deepest.result in
     let next = c.in_ok-next.next in
-    let behind = c.leave_behind.new.caller in
+    let behind = c.leave_behind.new.frame in
     let after = slice_set c.add.new.self (n - 1) behind in
     let rest : Frame = record frame { top = frame.top - h.params; at = frame.at + 1 } in
     let is_left : behind ≡ rest = c.leave_behind.ensures ∙ ap (λ (x : Frame). record x { top = x.top - h.params; at = x.at + 1 }) (sym again) in

@@ -1,15 +1,12 @@
-use Rattle.std.proofs.Common.{◌≡◌, sym, ap, ◌∙◌, subst, arith, Bool, true, ℕ, List}
-use Rattle.std.specs.Prelude.{Err, is_ok, if◌then◌else◌}
+use Rattle.std.proofs.Common.{◌≡◌, sym, ap, ◌∙◌, subst, arith}
+use Rattle.std.specs.Prelude.{Err, is_ok}
 use Rattle.std.specs.List.{insert}
 use Rattle.nodelet_core.specs.Standing.{ascends, names_of}
 use Rattle.nodelet_core.specs.Changed.{IsPlace}
 use Rattle.nodelet_core.proofs.Coming.{insert_ascends}
+use Rattle.nodelet_core.proofs.Arriving.{put_in}
 use Rattle.nodelet_core.proofs.Changed.{inserted, in_place, names_inserted, names_kept}
 use Rattle.nodelet_core.proofs.standing.Standing.add.Goals as goal
-
--- Where there is room, the item is put in.
-put_in : {X : Type 0} → (ok : Bool) (new reserved old : List X) (i : ℕ) (x : X) → new ≡ (if ok then insert reserved i x else reserved) → ok ≡ true → reserved ≡ old → new ≡ insert old i x
-put_in ok new reserved old i x e f g = e ∙ ap (λ b. if b then insert reserved i x else reserved) f ∙ ap (λ l. insert l i x) g
 
 pub invariant_of-self : goal.invariant_of-self
 invariant_of-self c =

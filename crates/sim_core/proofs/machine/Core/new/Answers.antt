@@ -1,5 +1,6 @@
 use Rattle.std.proofs.Common.{refl}
 use Rattle.sim_core.proofs.FirstCore.{first_core, first_fits, first_numbered, clear_fits}
+use Rattle.sim_core.proofs.Playing.{reached_first}
 use Rattle.sim_core.proofs.machine.Core.new.Goals as goal
 
 pub invariant_of-result : goal.invariant_of-result
@@ -23,3 +24,6 @@ returns-clause-fits c =
       first_fits c.args.code.now.code c.args.n c.args.turns c.args.rules c.in_ok-nodes.nodes.items c.in_ok-links.links.items c.in_ok-nodes.ensures.first,
       clear_fits c.args.code.now.code c.in_ok-links.links.items c.in_ok-links.ensures.clear,
     ) refl
+
+pub returns-clause-reached : goal.returns-clause-reached
+returns-clause-reached c = reached_first c.args.code.now.code _ (returns-clause-core c)
