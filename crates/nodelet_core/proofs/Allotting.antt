@@ -10,11 +10,11 @@ use Rattle.threadlet_code.specs.declared.code.Code.{Code}
 use Rattle.ack_fence.specs.Counting.{count_of}
 use Rattle.nodelet_core.specs.declared.nodelet.Nodelet.{Nodelet}
 use Rattle.nodelet_core.specs.declared.due.Request.{Request}
-use Rattle.nodelet_core.specs.Nodes.{Node, with_issued}
-use Rattle.nodelet_core.specs.Effects.{with_fresh}
+use Rattle.core_model.specs.Nodes.{Node, with_issued}
+use Rattle.core_model.specs.Effects.{with_fresh}
 use Rattle.nodelet_core.specs.Kept.{node_of, SameSettings, IsUnchanged}
-use Rattle.nodelet_core.specs.Became.{Did}
-use Rattle.nodelet_core.specs.Doing.{IsServedHere, address_for, with_cursors, with_withdrawn, grant_for, with_taken, kept_for}
+use Rattle.nodelet_core.specs.code.Became.{Did}
+use Rattle.nodelet_core.specs.code.Doing.{IsServedHere, address_for, with_cursors, with_withdrawn, grant_for, with_taken, kept_for}
 use Rattle.nodelet_core.proofs.Granting.{suc_not_zero}
 use Rattle.nodelet_core.proofs.Becoming.{did_then, unchanged_did}
 use Rattle.nodelet_core.proofs.Posting.{enough_issued}

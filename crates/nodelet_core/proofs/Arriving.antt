@@ -8,9 +8,10 @@ use Rattle.word_ops.specs.Naming.{same_name}
 use Rattle.world_model.proofs.Names.{same_name_is}
 use Rattle.threadlet_code.specs.declared.code.Code.{Code}
 use Rattle.threadlet_state.specs.declared.context.Context as carried
-use Rattle.nodelet_core.specs.Contexts.{Context, precedes, context_in, with_context}
-use Rattle.nodelet_core.specs.Standing.{names_of}
-use Rattle.nodelet_core.specs.Changed.{IsWith}
+use Rattle.core_model.specs.Contexts.{Context, precedes, with_context}
+use Rattle.nodelet_core.specs.Carried.{context_in}
+use Rattle.nodelet_core.specs.code.Standing.{names_of}
+use Rattle.nodelet_core.specs.code.Changed.{IsWith}
 
 -- Where there is room, the item is put in.
 pub put_in : {X : Type 0} → (ok : Bool) (new reserved old : List X) (i : ℕ) (x : X) → new ≡ (if ok then insert reserved i x else reserved) → ok ≡ true → reserved ≡ old → new ≡ insert old i x

@@ -18,8 +18,8 @@ use Rattle.threadlet_code.specs.Machine as machine
 use Rattle.threadlet_code.specs.Machine.{State, Next, goes, asks, stops, stuck, onward, push, divided, returned, answered, action_of, does_silently, acts_or_goes, does, pops, step}
 use Rattle.nodelet_core.specs.declared.due.Due.{Due}
 use Rattle.nodelet_core.specs.declared.due.Due.TheVariants as due
-use Rattle.nodelet_core.specs.Dues.{due_of}
-use Rattle.nodelet_core.specs.Runs.{action_in}
+use Rattle.nodelet_core.specs.code.Dues.{due_of}
+use Rattle.core_model.specs.Runs.{action_in}
 
 -- What decides of the action that comes next.
 abbrev pub due_in : Next → Option Due

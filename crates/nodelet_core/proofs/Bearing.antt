@@ -23,13 +23,14 @@ use Rattle.threadlet_code.specs.Running.{started, owed}
 use Rattle.threadlet_state.specs.declared.context.Context as carried
 use Rattle.threadlet_state.specs.Activations.{state_of}
 use Rattle.nodelet_core.specs.declared.nodelet.Nodelet.{Nodelet}
-use Rattle.nodelet_core.specs.Contexts.{Context, context_in}
-use Rattle.nodelet_core.specs.Effects.{child_of, next_name}
+use Rattle.core_model.specs.Contexts.{Context}
+use Rattle.nodelet_core.specs.Carried.{context_in}
+use Rattle.core_model.specs.Effects.{child_of, next_name}
 use Rattle.nodelet_core.specs.Kept.{node_of, setup_of}
 use Rattle.nodelet_core.specs.declared.due.Due.TheVariants as due
 use Rattle.nodelet_core.specs.declared.due.Hint.{Hint}
-use Rattle.nodelet_core.specs.Dues.{due_of}
-use Rattle.nodelet_core.specs.Runs.{action_in}
+use Rattle.nodelet_core.specs.code.Dues.{due_of}
+use Rattle.core_model.specs.Runs.{action_in}
 use Rattle.nodelet_core.proofs.Resuming.{comes_asked}
 
 -- ---- the words on top of a stack

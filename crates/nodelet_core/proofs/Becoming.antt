@@ -6,10 +6,10 @@ use Rattle.word_ops.specs.declared.name.Name.{Name}
 use Rattle.threadlet_code.specs.declared.code.Code.{Code}
 use Rattle.threadlet_state.specs.declared.context.Context as carried
 use Rattle.nodelet_core.specs.declared.nodelet.Nodelet.{Nodelet}
-use Rattle.nodelet_core.specs.Nodes.{Node, moved_from}
-use Rattle.nodelet_core.specs.Machine.{stamped_node}
+use Rattle.core_model.specs.Nodes.{Node, moved_from}
+use Rattle.core_model.specs.Machine.{stamped_node}
 use Rattle.nodelet_core.specs.Kept.{node_of, names_at, carried_at, SameSettings, IsUnchanged}
-use Rattle.nodelet_core.specs.Became.{Did, IsBlind, Became}
+use Rattle.nodelet_core.specs.code.Became.{Did, IsBlind, Became}
 
 -- ---- settings
 

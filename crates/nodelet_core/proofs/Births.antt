@@ -12,17 +12,18 @@ use Rattle.threadlet_state.specs.Fit.{frames_fit}
 use Rattle.nodelet_core.specs.declared.nodelet.Nodelet.{Nodelet}
 use Rattle.nodelet_core.specs.declared.counting.Counted.{Counted}
 use Rattle.nodelet_core.specs.declared.due.Hint.{Hint}
-use Rattle.nodelet_core.specs.Dues.{hint_of, asked_hint}
-use Rattle.nodelet_core.specs.Contexts.{Context, Arrival, context_in}
-use Rattle.nodelet_core.specs.Counted.{counted}
-use Rattle.nodelet_core.specs.Nodes.{Setup, Node, with_strand, moved_from, sent_away}
-use Rattle.nodelet_core.specs.Effects.{Effect, quiet, sending, only_to, nothing, child_of, counted_birth, effect}
-use Rattle.nodelet_core.specs.Runs.{went_on}
-use Rattle.nodelet_core.specs.Machine.{stamped_node}
+use Rattle.nodelet_core.specs.code.Dues.{hint_of, asked_hint}
+use Rattle.core_model.specs.Contexts.{Context, Arrival}
+use Rattle.nodelet_core.specs.Carried.{context_in}
+use Rattle.nodelet_core.specs.code.Counted.{counted}
+use Rattle.core_model.specs.Nodes.{Setup, Node, with_strand, moved_from, sent_away}
+use Rattle.core_model.specs.Effects.{Effect, quiet, sending, only_to, nothing, child_of, counted_birth, effect}
+use Rattle.core_model.specs.Runs.{went_on}
+use Rattle.core_model.specs.Machine.{stamped_node}
 use Rattle.nodelet_core.specs.Kept.{node_of, context_fits, all_fit}
-use Rattle.nodelet_core.specs.Became.{Became}
+use Rattle.nodelet_core.specs.code.Became.{Became}
 use Rattle.nodelet_core.specs.Left.{Sent}
-use Rattle.nodelet_core.specs.Doing.{SentMore, Left, goes_on_at, placed}
+use Rattle.nodelet_core.specs.code.Doing.{SentMore, Left, goes_on_at, placed}
 use Rattle.nodelet_core.proofs.Becoming.{settings_then, moved_stamped}
 use Rattle.nodelet_core.proofs.Doing.{Leaves, nothing_counted}
 use Rattle.nodelet_core.proofs.Stamps.{nothing_sent}

@@ -7,9 +7,10 @@ use Rattle.word_ops.specs.declared.name.Name.{Name}
 use Rattle.word_ops.specs.Naming.{same_name}
 use Rattle.threadlet_code.specs.declared.code.Code.{Code}
 use Rattle.threadlet_state.specs.declared.context.Context as carried
-use Rattle.nodelet_core.specs.Contexts.{precedes, context_in, context_of, with_context, without_context}
-use Rattle.nodelet_core.specs.Standing.{ascends, names_of}
-use Rattle.nodelet_core.specs.Changed.{IsPlace, IsWith, IsWithout}
+use Rattle.core_model.specs.Contexts.{precedes, context_of, with_context, without_context}
+use Rattle.nodelet_core.specs.Carried.{context_in}
+use Rattle.nodelet_core.specs.code.Standing.{ascends, names_of}
+use Rattle.nodelet_core.specs.code.Changed.{IsPlace, IsWith, IsWithout}
 use Rattle.nodelet_core.proofs.Found.{both, passes, precedes_apart, name_at, as_many, found_is}
 use Rattle.nodelet_core.proofs.Coming.{behind_apart, same_as, map_insert, map_remove, map_set_same, insert_all, remove_all, set_all, with_here, with_first, with_behind, without_here, without_other}
 

@@ -5,8 +5,8 @@ use Rattle.std.specs.List.{list_all, insert, remove}
 use Rattle.std.proofs.lemmas.Bool.Decides.{eqb_tells, nat_tests}
 use Rattle.word_ops.specs.declared.name.Name.{Name}
 use Rattle.word_ops.specs.Naming.{same_name}
-use Rattle.nodelet_core.specs.Contexts.{Context, precedes, with_context, without_context}
-use Rattle.nodelet_core.specs.Standing.{ascends}
+use Rattle.core_model.specs.Contexts.{Context, precedes, with_context, without_context}
+use Rattle.nodelet_core.specs.code.Standing.{ascends}
 use Rattle.nodelet_core.proofs.Found.{both, precedes_apart}
 
 -- ---- the order of names

@@ -3,8 +3,8 @@ use Rattle.std.proofs.Common.{◌≡◌, ℕ, Bool, Option, Some, None, refl, ap
 use Rattle.word_ops.specs.declared.place.Pos.{Pos}
 use Rattle.world_model.specs.Action.{Action, Turn, Load, Issue, Fetch, Init, Fence, Move, Where, Print, Alloc, Spawn, Sync, End, Trap, Striped, Blocked, Local, Replicated}
 use Rattle.world_model.specs.Sight.{Sight}
-use Rattle.nodelet_core.specs.Dues.{due_of, asked}
-use Rattle.nodelet_core.specs.Runs.{way_of}
+use Rattle.nodelet_core.specs.code.Dues.{due_of, asked}
+use Rattle.core_model.specs.Runs.{way_of}
 
 module _ (n turns : ℕ) (here home served : ℕ) (clear : Bool) (late : Option Pos) (free : Bool) where
   -- What a context sees, by what it sees of the children of each activation.

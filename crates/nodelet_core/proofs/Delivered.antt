@@ -12,16 +12,17 @@ use Rattle.threadlet_state.specs.declared.packet.Body.TheVariants as by
 use Rattle.merge_law.specs.Machine as merge
 use Rattle.merge_law.specs.Machine.{last_stamp}
 use Rattle.nodelet_core.specs.declared.nodelet.Nodelet.{Nodelet}
-use Rattle.nodelet_core.specs.Contexts.{context_of, body_in}
-use Rattle.nodelet_core.specs.Nodes.{Setup, Node}
-use Rattle.nodelet_core.specs.Runs.{Outcome}
-use Rattle.nodelet_core.specs.Takes.{take, can_come, is_given, has_home}
-use Rattle.nodelet_core.specs.Machine.{Packet, machine_of, stamped_node}
+use Rattle.core_model.specs.Contexts.{context_of}
+use Rattle.nodelet_core.specs.Carried.{body_in}
+use Rattle.core_model.specs.Nodes.{Setup, Node}
+use Rattle.core_model.specs.Runs.{Outcome}
+use Rattle.core_model.specs.Takes.{take, can_come, is_given, has_home}
+use Rattle.core_model.specs.Machine.{Packet, machine_of, stamped_node}
 use Rattle.nodelet_core.specs.Kept.{node_of, setup_of, packet_in, SameSettings}
-use Rattle.nodelet_core.specs.Standing.{is_among}
+use Rattle.nodelet_core.specs.code.Standing.{is_among}
 use Rattle.nodelet_core.specs.Left.{Sent, HasTaken}
-use Rattle.nodelet_core.specs.Became.{HasEntered}
-use Rattle.nodelet_core.specs.Doing.{SentMore, LeftTaking, step_of_body}
+use Rattle.nodelet_core.specs.code.Became.{HasEntered}
+use Rattle.nodelet_core.specs.code.Doing.{SentMore, LeftTaking, step_of_body}
 use Rattle.nodelet_core.proofs.Becoming.{settings_then}
 use Rattle.nodelet_core.proofs.Coming.{together}
 use Rattle.nodelet_core.proofs.Found.{both}

@@ -16,17 +16,18 @@ use Rattle.nodelet_core.specs.declared.due.Due.{Due}
 use Rattle.nodelet_core.specs.declared.due.Due.TheVariants as due
 use Rattle.nodelet_core.specs.declared.counting.Counted.{Counted}
 use Rattle.nodelet_core.specs.declared.counting.Posts.TheVariants as posts
-use Rattle.nodelet_core.specs.Contexts.{Context, context_in}
-use Rattle.nodelet_core.specs.Nodes.{Node, with_strand, without_strand, with_trap, moved_from, bore_at, ended_for, sent_away}
-use Rattle.nodelet_core.specs.Counted.{counted, at_number}
-use Rattle.nodelet_core.specs.Effects.{Sends, Effect, effect, ended}
-use Rattle.nodelet_core.specs.Runs.{went_on, gone, trapped, action_in, last_done, has_effect}
-use Rattle.nodelet_core.specs.Machine.{stamped_node}
-use Rattle.nodelet_core.specs.Dues.{due_of, asked}
+use Rattle.core_model.specs.Contexts.{Context}
+use Rattle.nodelet_core.specs.Carried.{context_in}
+use Rattle.core_model.specs.Nodes.{Node, with_strand, without_strand, with_trap, moved_from, bore_at, ended_for, sent_away}
+use Rattle.nodelet_core.specs.code.Counted.{counted, at_number}
+use Rattle.core_model.specs.Effects.{Sends, Effect, effect, ended}
+use Rattle.core_model.specs.Runs.{went_on, gone, trapped, action_in, last_done, has_effect}
+use Rattle.core_model.specs.Machine.{stamped_node}
+use Rattle.nodelet_core.specs.code.Dues.{due_of, asked}
 use Rattle.nodelet_core.specs.Kept.{node_of, setup_of, context_fits}
-use Rattle.nodelet_core.specs.Became.{Did, Became}
+use Rattle.nodelet_core.specs.code.Became.{Did, Became}
 use Rattle.nodelet_core.specs.Left.{Sent}
-use Rattle.nodelet_core.specs.Doing.{SentMore, Left, HadEffect, placed, goes_on_at, goes_from, traps_at}
+use Rattle.nodelet_core.specs.code.Doing.{SentMore, Left, HadEffect, placed, goes_on_at, goes_from, traps_at}
 use Rattle.nodelet_core.proofs.Becoming.{settings_then, moved_stamped}
 use Rattle.nodelet_core.proofs.Stamps.{nothing_sent, moved_stamp, moves_stamped}
 use Rattle.nodelet_core.proofs.Resuming.{is_answered, is_whole, comes_asked, comes_last, action_told}

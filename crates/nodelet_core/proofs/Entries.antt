@@ -16,12 +16,12 @@ use Rattle.threadlet_code.specs.Machine.{State, Next, goes, asks, stops, stuck, 
 use Rattle.nodelet_core.specs.declared.due.Due.{Due}
 use Rattle.nodelet_core.specs.declared.sight.Way as coded
 use Rattle.nodelet_core.specs.declared.sight.Way.TheVariants as way
-use Rattle.nodelet_core.specs.Dues.{due_of, way_seen}
-use Rattle.nodelet_core.specs.Contexts.{Context}
-use Rattle.nodelet_core.specs.Nodes.{Setup, Node}
-use Rattle.nodelet_core.specs.Effects.{Effect, effect, announced, allocated, ended}
-use Rattle.nodelet_core.specs.Runs.{Outcome, outside, action_in, done_here, by_way}
-use Rattle.nodelet_core.specs.Doing.{child_named}
+use Rattle.nodelet_core.specs.code.Dues.{due_of, way_seen}
+use Rattle.core_model.specs.Contexts.{Context}
+use Rattle.core_model.specs.Nodes.{Setup, Node}
+use Rattle.core_model.specs.Effects.{Effect, effect, announced, allocated, ended}
+use Rattle.core_model.specs.Runs.{Outcome, outside, action_in, done_here, by_way}
+use Rattle.nodelet_core.specs.code.Doing.{child_named}
 use Rattle.nodelet_core.proofs.Resuming.{is_answered, comes_asked}
 
 -- ---- the child of an action

@@ -16,18 +16,19 @@ use Rattle.threadlet_code.specs.Machine.{State, Next}
 use Rattle.threadlet_state.specs.declared.context.Context as carried
 use Rattle.nodelet_core.specs.declared.nodelet.Nodelet.{Nodelet}
 use Rattle.nodelet_core.specs.declared.due.Due.{Due}
-use Rattle.nodelet_core.specs.Contexts.{Context, context_in}
-use Rattle.nodelet_core.specs.Nodes.{Setup, Node, is_granted, with_strand}
-use Rattle.nodelet_core.specs.Effects.{nothing}
-use Rattle.nodelet_core.specs.Runs.{Outcome, Way, Refused, DoneHere, SentTo, Waits, way_by, late_way, way_of, outside, stays_before}
-use Rattle.nodelet_core.specs.Dues.{due_of, asked}
-use Rattle.nodelet_core.specs.Machine.{stamped_node}
+use Rattle.core_model.specs.Contexts.{Context}
+use Rattle.nodelet_core.specs.Carried.{context_in}
+use Rattle.core_model.specs.Nodes.{Setup, Node, is_granted, with_strand}
+use Rattle.core_model.specs.Effects.{nothing}
+use Rattle.core_model.specs.Runs.{Outcome, Way, Refused, DoneHere, SentTo, Waits, way_by, late_way, way_of, outside, stays_before}
+use Rattle.nodelet_core.specs.code.Dues.{due_of, asked}
+use Rattle.core_model.specs.Machine.{stamped_node}
 use Rattle.nodelet_core.specs.Kept.{node_of, context_fits}
-use Rattle.nodelet_core.specs.Became.{Became}
+use Rattle.nodelet_core.specs.code.Became.{Became}
 use Rattle.nodelet_core.specs.Left.{Sent}
-use Rattle.nodelet_core.specs.Doing.{SentMore, Left}
-use Rattle.nodelet_core.specs.Takes.{has_home}
-use Rattle.nodelet_core.specs.Standing.{is_among}
+use Rattle.nodelet_core.specs.code.Doing.{SentMore, Left}
+use Rattle.core_model.specs.Takes.{has_home}
+use Rattle.nodelet_core.specs.code.Standing.{is_among}
 use Rattle.nodelet_core.proofs.Found.{both}
 use Rattle.nodelet_core.proofs.Stamps.{nothing_sent}
 

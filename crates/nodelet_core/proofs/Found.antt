@@ -8,10 +8,11 @@ use Rattle.word_ops.specs.declared.name.Name.{Name}
 use Rattle.word_ops.specs.contracts.name.NameOrd.TheImpl.{ghosts as by}
 use Rattle.word_ops.specs.Naming.{same_name}
 use Rattle.threadlet_code.specs.declared.code.Code.{Code}
-use Rattle.nodelet_core.specs.Contexts.{Context, precedes, context_in, context_of}
+use Rattle.core_model.specs.Contexts.{Context, precedes, context_of}
+use Rattle.nodelet_core.specs.Carried.{context_in}
 use Rattle.threadlet_state.specs.declared.context.Context as carried
-use Rattle.nodelet_core.specs.Takes.{has_home}
-use Rattle.nodelet_core.specs.Standing.{ascends, names_of, is_among}
+use Rattle.core_model.specs.Takes.{has_home}
+use Rattle.nodelet_core.specs.code.Standing.{ascends, names_of, is_among}
 
 -- Names are in order of nodelet, then number.
 cmp_is : (y t : Name) → by.cmp y t ≡ ordering_then (nat_cmp y.nodelet t.nodelet) (nat_cmp y.number t.number)

@@ -9,10 +9,10 @@ use Rattle.world_model.specs.Action.{Action, Sync}
 use Rattle.world_model.specs.Sight.{Sight, can_sync, place_after}
 use Rattle.nodelet_core.specs.declared.due.Due.TheVariants as due
 use Rattle.nodelet_core.specs.declared.counting.Counted.{Counted}
-use Rattle.nodelet_core.specs.Dues.{due_of}
-use Rattle.nodelet_core.specs.Runs.{DoneHere, way_of, are_recorded}
-use Rattle.nodelet_core.specs.Nodes.{Node, without_results}
-use Rattle.nodelet_core.specs.Effects.{Effect, quiet, nothing}
+use Rattle.nodelet_core.specs.code.Dues.{due_of}
+use Rattle.core_model.specs.Runs.{DoneHere, way_of, are_recorded}
+use Rattle.core_model.specs.Nodes.{Node, without_results}
+use Rattle.core_model.specs.Effects.{Effect, quiet, nothing}
 use Rattle.nodelet_core.proofs.Found.{both}
 use Rattle.nodelet_core.proofs.Seeing.{each_there}
 use Rattle.nodelet_core.proofs.Followed.{done_ready}

@@ -22,12 +22,12 @@ use Rattle.nodelet_core.specs.declared.nodelet.Nodelet.{Nodelet}
 use Rattle.nodelet_core.specs.declared.due.Due.TheVariants as due
 use Rattle.nodelet_core.specs.declared.due.Request.{Request}
 use Rattle.nodelet_core.specs.declared.due.Request.TheVariants as request
-use Rattle.nodelet_core.specs.Contexts.{Issued}
-use Rattle.nodelet_core.specs.Nodes.{Setup, Node, with_issued}
-use Rattle.nodelet_core.specs.Effects.{Effect, quiet, sending, nothing, to_all, with_fresh, announced, allocated}
-use Rattle.nodelet_core.specs.Machine.{stamped_node}
-use Rattle.nodelet_core.specs.Dues.{asked_request}
-use Rattle.nodelet_core.specs.Doing.{IsDueHere, IsServedHere, address_for, with_cursors, with_withdrawn, fresh_of, grant_for, with_taken, kept_for, grant_sends, is_local}
+use Rattle.core_model.specs.Contexts.{Issued}
+use Rattle.core_model.specs.Nodes.{Setup, Node, with_issued}
+use Rattle.core_model.specs.Effects.{Effect, quiet, sending, nothing, to_all, with_fresh, announced, allocated}
+use Rattle.core_model.specs.Machine.{stamped_node}
+use Rattle.nodelet_core.specs.code.Dues.{asked_request}
+use Rattle.nodelet_core.specs.code.Doing.{IsDueHere, IsServedHere, address_for, with_cursors, with_withdrawn, fresh_of, grant_for, with_taken, kept_for, grant_sends, is_local}
 use Rattle.nodelet_core.proofs.Resuming.{acts_here, is_answered, comes_asked, action_told}
 use Rattle.nodelet_core.proofs.Posting.{withdrawn}
 use Rattle.nodelet_core.proofs.Doing.{Leaves, nothing_counted}

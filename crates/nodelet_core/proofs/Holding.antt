@@ -3,8 +3,8 @@ use Rattle.std.proofs.Common.{◌≡◌, ℕ, ℤ, pos, List, [], ◌∷◌, ref
 use Rattle.std.specs.Prelude.{map, Option, Some, None, unwrap_or}
 use Rattle.std.proofs.Math.Path.{fun_ext}
 use Rattle.service.specs.Requests.{cursors_then}
-use Rattle.nodelet_core.specs.Nodes.{Node}
-use Rattle.nodelet_core.specs.Doing.{with_cursors}
+use Rattle.core_model.specs.Nodes.{Node}
+use Rattle.nodelet_core.specs.code.Doing.{with_cursors}
 
 -- ---- results
 

@@ -6,9 +6,10 @@ use Rattle.word_ops.specs.declared.name.Name.{Name}
 use Rattle.word_ops.specs.declared.place.Pos.{Pos}
 use Rattle.threadlet_state.specs.declared.context.Context as carried
 use Rattle.world_model.specs.Step.{late_after}
-use Rattle.nodelet_core.specs.Contexts.{precedes, context_in, with_context}
-use Rattle.nodelet_core.specs.Standing.{ascends, names_of}
-use Rattle.nodelet_core.specs.Changed.{IsPlace, IsLater, with_late}
+use Rattle.core_model.specs.Contexts.{precedes, with_context}
+use Rattle.nodelet_core.specs.Carried.{context_in}
+use Rattle.nodelet_core.specs.code.Standing.{ascends, names_of}
+use Rattle.nodelet_core.specs.code.Changed.{IsPlace, IsLater, with_late}
 use Rattle.nodelet_core.proofs.Found.{holds_at, none_named, as_many}
 use Rattle.nodelet_core.proofs.Changed.{in_place, nowhere, named_at, found_named}
 

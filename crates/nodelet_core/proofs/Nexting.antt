@@ -6,32 +6,21 @@ use Rattle.world_model.specs.Action.{Action}
 use Rattle.threadlet_code.specs.declared.code.Code.{Code}
 use Rattle.threadlet_code.specs.Breaches.{is_sound}
 use Rattle.threadlet_code.specs.Machine.{State, Next, goes, asks, stops, stuck, step}
-use Rattle.threadlet_code.specs.Running.{halts, halt, room}
+use Rattle.threadlet_code.specs.Running.{halt}
 use Rattle.threadlet_code.specs.Fitting.{Fits}
-use Rattle.threadlet_code.proofs.FitLaws.{silent_fits, never_stuck}
+use Rattle.threadlet_code.proofs.FitLaws.{never_stuck}
 use Rattle.threadlet_code.proofs.Halting.{halts_at_due, nothing_silent_is_due}
 use Rattle.threadlet_code.proofs.Following.{silent_halts_later, action_halts_here, last_action_halts_here}
+use Rattle.core_model.proofs.Halted.{halted_fits}
 use Rattle.nodelet_core.specs.declared.next.Next.TheVariants as by
 use Rattle.nodelet_core.specs.declared.due.Due.{Due}
 use Rattle.nodelet_core.specs.declared.sight.Way as coded
 use Rattle.nodelet_core.specs.declared.sight.Way.TheVariants as way
-use Rattle.nodelet_core.specs.Dues.{due_of, way_seen}
-use Rattle.nodelet_core.specs.Contexts.{Context}
-use Rattle.nodelet_core.specs.Nodes.{Setup, Node}
-use Rattle.nodelet_core.specs.Runs.{Way, Refused, DoneHere, SentTo, Waits, way_of, sight_at, is_free, outside, action_in, done_here, by_way, taken_up}
+use Rattle.nodelet_core.specs.code.Dues.{due_of, way_seen}
+use Rattle.core_model.specs.Contexts.{Context}
+use Rattle.core_model.specs.Nodes.{Setup, Node}
+use Rattle.core_model.specs.Runs.{Way, Refused, DoneHere, SentTo, Waits, way_of, sight_at, is_free, outside, action_in, done_here, by_way, taken_up}
 use Rattle.nodelet_core.specs.Kept.{next_by}
-
--- what holds of a state and stays where a silent instruction is done holds where it halts
-pub kept_halting : (c : Code) (P : State → Type 0) → ((state after : State) → step c state ≡ goes after → P state → P after) →
-    (n done : ℕ) (state : State) (next : Next) → step c state ≡ next → P state → P (halts n c done state next).state
-kept_halting c P silent zero done state next e p = p
-kept_halting c P silent (suc n) done state (goes after) e p = kept_halting c P silent n (suc done) after (step c after) refl (silent state after e p)
-kept_halting c P silent (suc n) done state (asks action resume) e p = p
-kept_halting c P silent (suc n) done state (stops action) e p = p
-kept_halting c P silent (suc n) done state stuck e p = p
-
-pub halted_fits : (c : Code) → is_sound c ≡ true → (state : State) → Fits c state → Fits c (halt c state).state
-halted_fits c sound state fits = kept_halting c (Fits c) (λ a b e p. silent_fits c sound a b p e) (room c state) 0 state (step c state) refl fits
 
 module _ (m : Setup) (here : ℕ) (v : Node) (x : Context) where
   abbrev WayOf : State → Action → Way

@@ -10,13 +10,14 @@ use Rattle.threadlet_state.specs.declared.packet.Body as sent_body
 use Rattle.merge_law.specs.Machine.{is_linked}
 use Rattle.nodelet_core.specs.declared.sending.Item.{Item}
 use Rattle.nodelet_core.specs.declared.sending.Item.TheVariants as item
-use Rattle.nodelet_core.specs.Contexts.{Body, Issued, body_in}
-use Rattle.nodelet_core.specs.Effects.{Sends, nothing, only_to, to_all}
-use Rattle.nodelet_core.specs.Machine.{packet_of}
+use Rattle.core_model.specs.Contexts.{Body, Issued}
+use Rattle.nodelet_core.specs.Carried.{body_in}
+use Rattle.core_model.specs.Effects.{Sends, nothing, only_to, to_all}
+use Rattle.core_model.specs.Machine.{packet_of}
 use Rattle.nodelet_core.specs.Kept.{packet_in, packet_fits, body_fits}
 use Rattle.nodelet_core.specs.Left.{Sent}
-use Rattle.nodelet_core.specs.Told.{body_for, told_to}
-use Rattle.nodelet_core.specs.Doing.{SentMore, item_of}
+use Rattle.nodelet_core.specs.code.Told.{body_for, told_to}
+use Rattle.nodelet_core.specs.code.Doing.{SentMore, item_of}
 
 -- ---- links
 

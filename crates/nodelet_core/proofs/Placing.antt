@@ -5,9 +5,9 @@ use Rattle.std.specs.List.Sorted.{IsSearchInRange, IsBinarySearchResult}
 use Rattle.std.proofs.lemmas.Bool.Decides.{eqb_tells, nat_tests}
 use Rattle.word_ops.specs.declared.name.Name.{Name}
 use Rattle.word_ops.specs.contracts.name.NameOrd.TheImpl.{ghosts as by}
-use Rattle.nodelet_core.specs.Contexts.{precedes}
-use Rattle.nodelet_core.specs.Standing.{ascends}
-use Rattle.nodelet_core.specs.Changed.{IsPlace}
+use Rattle.core_model.specs.Contexts.{precedes}
+use Rattle.nodelet_core.specs.code.Standing.{ascends}
+use Rattle.nodelet_core.specs.code.Changed.{IsPlace}
 use Rattle.nodelet_core.proofs.Found.{same, never_falls}
 
 less_is : (y t : Name) → by.cmp y t ≡ Less → precedes y t ≡ true

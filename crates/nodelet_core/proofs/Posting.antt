@@ -19,12 +19,13 @@ use Rattle.threadlet_state.specs.declared.packet.Body.TheVariants as by
 use Rattle.nodelet_core.specs.declared.nodelet.Nodelet.{Nodelet}
 use Rattle.nodelet_core.specs.declared.due.Due.TheVariants as due
 use Rattle.nodelet_core.specs.declared.counting.Posts.TheVariants as posts
-use Rattle.nodelet_core.specs.Contexts.{Issued, Arrival, context_in, body_in}
-use Rattle.nodelet_core.specs.Nodes.{Node, with_word, with_issued, posted_to}
-use Rattle.nodelet_core.specs.Effects.{nothing, only_to, to_all, for_each, operated, issued, initialized}
-use Rattle.nodelet_core.specs.Machine.{stamped_node}
+use Rattle.core_model.specs.Contexts.{Issued, Arrival}
+use Rattle.nodelet_core.specs.Carried.{context_in, body_in}
+use Rattle.core_model.specs.Nodes.{Node, with_word, with_issued, posted_to}
+use Rattle.core_model.specs.Effects.{nothing, only_to, to_all, for_each, operated, issued, initialized}
+use Rattle.core_model.specs.Machine.{stamped_node}
 use Rattle.nodelet_core.specs.Kept.{body_fits, SameSettings}
-use Rattle.nodelet_core.specs.Doing.{with_withdrawn, IsDueHere}
+use Rattle.nodelet_core.specs.code.Doing.{with_withdrawn, IsDueHere}
 use Rattle.nodelet_core.proofs.Resuming.{acts_here}
 use Rattle.nodelet_core.proofs.Found.{itself}
 use Rattle.nodelet_core.proofs.Doing.{Leaves, nothing_counted}

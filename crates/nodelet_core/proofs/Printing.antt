@@ -16,8 +16,8 @@ use Rattle.threadlet_code.specs.Machine as machine
 use Rattle.threadlet_code.specs.Machine.{State, Next, goes, onward, push, divided, called, returned, action_of, acts_or_goes, does, pops}
 use Rattle.nodelet_core.specs.declared.due.Due.{Due}
 use Rattle.nodelet_core.specs.declared.due.Due.TheVariants as due
-use Rattle.nodelet_core.specs.Dues.{due_of}
-use Rattle.nodelet_core.specs.Runs.{action_in}
+use Rattle.nodelet_core.specs.code.Dues.{due_of}
+use Rattle.core_model.specs.Runs.{action_in}
 use Rattle.nodelet_core.proofs.Asking.{due_in}
 
 -- The action that comes next is a print.

@@ -18,16 +18,17 @@ use Rattle.threadlet_state.specs.Answered.{IsHalted}
 use Rattle.nodelet_core.specs.declared.nodelet.Nodelet.{Nodelet}
 use Rattle.nodelet_core.specs.declared.next.Next as next
 use Rattle.nodelet_core.specs.declared.next.Next.TheVariants.{Goes, Waits as Rests}
-use Rattle.nodelet_core.specs.Contexts.{Context, context_in, context_of}
-use Rattle.nodelet_core.specs.Nodes.{Setup, Node}
-use Rattle.nodelet_core.specs.Effects.{effect}
-use Rattle.nodelet_core.specs.Runs.{Outcome, Way, Refused, DoneHere, SentTo, Waits, way_of, sight_at, is_free, outside, action_in, went_on, gone, done_here, by_way, taken_up, run}
-use Rattle.nodelet_core.specs.Machine.{machine_of, stamped_node}
-use Rattle.nodelet_core.specs.Standing.{names_of}
+use Rattle.core_model.specs.Contexts.{Context, context_of}
+use Rattle.nodelet_core.specs.Carried.{context_in}
+use Rattle.core_model.specs.Nodes.{Setup, Node}
+use Rattle.core_model.specs.Effects.{effect}
+use Rattle.core_model.specs.Runs.{Outcome, Way, Refused, DoneHere, SentTo, Waits, way_of, sight_at, is_free, outside, action_in, went_on, gone, done_here, by_way, taken_up, run}
+use Rattle.core_model.specs.Machine.{machine_of, stamped_node}
+use Rattle.nodelet_core.specs.code.Standing.{names_of}
 use Rattle.nodelet_core.specs.Kept.{node_of, setup_of, next_by, names_at, carried_at, all_fit, context_fits, SameSettings, IsUnchanged}
-use Rattle.nodelet_core.specs.Became.{HasEntered}
+use Rattle.nodelet_core.specs.code.Became.{HasEntered}
 use Rattle.nodelet_core.specs.Left.{Sent, HasRun}
-use Rattle.nodelet_core.specs.Doing.{Left, way_in}
+use Rattle.nodelet_core.specs.code.Doing.{Left, way_in}
 use Rattle.nodelet_core.proofs.Becoming.{settings_then}
 use Rattle.nodelet_core.proofs.Found.{name_at, as_many}
 use Rattle.nodelet_core.proofs.Stamps.{sent_at}

@@ -24,11 +24,11 @@ use Rattle.ack_fence.specs.Counting.{count_of}
 use Rattle.nodelet_core.specs.declared.nodelet.Nodelet.{Nodelet}
 use Rattle.nodelet_core.specs.declared.due.Due.{Due}
 use Rattle.nodelet_core.specs.declared.due.Due.TheVariants as due
-use Rattle.nodelet_core.specs.Dues.{due_of, asked}
-use Rattle.nodelet_core.specs.Contexts.{context_in}
-use Rattle.nodelet_core.specs.Runs.{DoneHere, Waits, SentTo, Refused, way_by, late_way, way_of, sight_at, is_free, action_in}
+use Rattle.nodelet_core.specs.code.Dues.{due_of, asked}
+use Rattle.nodelet_core.specs.Carried.{context_in}
+use Rattle.core_model.specs.Runs.{DoneHere, Waits, SentTo, Refused, way_by, late_way, way_of, sight_at, is_free, action_in}
 use Rattle.nodelet_core.specs.Kept.{node_of}
-use Rattle.nodelet_core.specs.Doing.{IsDueHere}
+use Rattle.nodelet_core.specs.code.Doing.{IsDueHere}
 
 -- All actions are answered but the last one of a strand.
 abbrev pub is_answered : Due → Bool

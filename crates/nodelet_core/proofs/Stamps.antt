@@ -12,14 +12,14 @@ use Rattle.nodelet_core.specs.declared.nodelet.Nodelet.{Nodelet}
 use Rattle.nodelet_core.specs.declared.counting.Counted.{Counted}
 use Rattle.nodelet_core.specs.declared.counting.Posts.{Posts}
 use Rattle.nodelet_core.specs.declared.counting.Posts.TheVariants as posts
-use Rattle.nodelet_core.specs.Nodes.{Node, with_turn, moved_from, bore_at, posted_to, ended_for, applied_here, sent_away}
-use Rattle.nodelet_core.specs.Counted.{counted, at_number, where_so, with_posts, with_number}
-use Rattle.nodelet_core.specs.Effects.{Sends, nothing, for_each}
-use Rattle.nodelet_core.specs.Machine.{packet_of, stamped_node}
+use Rattle.core_model.specs.Nodes.{Node, with_turn, moved_from, bore_at, posted_to, ended_for, applied_here, sent_away}
+use Rattle.nodelet_core.specs.code.Counted.{counted, at_number, where_so, with_posts, with_number}
+use Rattle.core_model.specs.Effects.{Sends, nothing, for_each}
+use Rattle.core_model.specs.Machine.{packet_of, stamped_node}
 use Rattle.nodelet_core.specs.Kept.{node_of, packet_fits}
-use Rattle.nodelet_core.specs.Became.{Did, Became}
+use Rattle.nodelet_core.specs.code.Became.{Did, Became}
 use Rattle.nodelet_core.specs.Left.{Sent}
-use Rattle.nodelet_core.specs.Doing.{SentMore, goes_on_at, goes_from}
+use Rattle.nodelet_core.specs.code.Doing.{SentMore, goes_on_at, goes_from}
 use Rattle.nodelet_core.proofs.Becoming.{settings_then, moved_stamped}
 
 -- ---- the stamp of a nodelet

@@ -7,10 +7,10 @@ use Rattle.data_layout.specs.Cursor.{first_cursor}
 use Rattle.world_model.specs.World.{lies_in}
 use Rattle.world_model.specs.Run.{first_grants}
 use Rattle.nodelet_core.specs.declared.tally.Tally.{Tally}
-use Rattle.nodelet_core.specs.Contexts.{Context}
-use Rattle.nodelet_core.specs.Nodes.{Setup, Node, Tallies}
-use Rattle.nodelet_core.specs.Start.{start_node, no_tallies}
-use Rattle.nodelet_core.specs.Tallied.{IsBlank, tallies_of}
+use Rattle.core_model.specs.Contexts.{Context}
+use Rattle.core_model.specs.Nodes.{Setup, Node, Tallies}
+use Rattle.core_model.specs.Start.{start_node, no_tallies}
+use Rattle.nodelet_core.specs.code.Tallied.{IsBlank, tallies_of}
 
 abbrev tallies : (ℕ → ℕ) → (ℕ → ℕ) → (ℕ → ℕ) → (ℕ → ℕ) → Tallies
 tallies moves births posts dones = record { moves = moves; births = births; posts = posts; dones = dones; applied = 0; sent_contexts = 0 }

@@ -13,9 +13,9 @@ use Rattle.threadlet_code.specs.declared.code.FuncCode.{FuncCode}
 use Rattle.threadlet_code.specs.declared.code.Code.{Code}
 use Rattle.threadlet_code.specs.Machine.{Frame, State, Next, goes, stops, onward, push, entered, divided, called, returned, place_in, spawn_of, step}
 use Rattle.threadlet_code.proofs.Stepping.{effect, by_instruction}
-use Rattle.nodelet_core.specs.Nodes.{Node}
-use Rattle.nodelet_core.specs.Dues.{due_of, asked}
-use Rattle.nodelet_core.specs.Runs.{action_in, is_free}
+use Rattle.core_model.specs.Nodes.{Node}
+use Rattle.nodelet_core.specs.code.Dues.{due_of, asked}
+use Rattle.core_model.specs.Runs.{action_in, is_free}
 
 abbrev IsOfDeepest : State → Next → Type 0
 IsOfDeepest state next = (d : ℕ) → action_in next ≡ Some (Sync d) → d ≡ length state

@@ -14,16 +14,17 @@ use Rattle.threadlet_state.specs.declared.packet.Body.TheVariants as by
 use Rattle.world_model.specs.World as world
 use Rattle.merge_law.specs.Machine.{is_linked}
 use Rattle.nodelet_core.specs.declared.nodelet.Nodelet.{Nodelet}
-use Rattle.nodelet_core.specs.Contexts.{Context, Body, Arrival, Issued, Ack, Returned, context_in, context_of, body_in}
-use Rattle.nodelet_core.specs.Nodes.{Setup, Node, is_granted, with_word, with_strand, with_result, applied_here}
-use Rattle.nodelet_core.specs.Effects.{only_to, operated}
-use Rattle.nodelet_core.specs.Takes.{made_late, acknowledged, with_item, late_of, take}
-use Rattle.nodelet_core.specs.Runs.{Outcome}
-use Rattle.nodelet_core.specs.Machine.{stamped_node}
+use Rattle.core_model.specs.Contexts.{Context, Body, Arrival, Issued, Ack, Returned, context_of}
+use Rattle.nodelet_core.specs.Carried.{context_in, body_in}
+use Rattle.core_model.specs.Nodes.{Setup, Node, is_granted, with_word, with_strand, with_result, applied_here}
+use Rattle.core_model.specs.Effects.{only_to, operated}
+use Rattle.core_model.specs.Takes.{made_late, acknowledged, with_item, late_of, take}
+use Rattle.core_model.specs.Runs.{Outcome}
+use Rattle.core_model.specs.Machine.{stamped_node}
 use Rattle.nodelet_core.specs.Kept.{node_of, setup_of, context_fits, body_fits, SameSettings}
 use Rattle.nodelet_core.specs.Left.{Sent}
-use Rattle.nodelet_core.specs.Became.{Did, Became}
-use Rattle.nodelet_core.specs.Doing.{SentMore, Left, LeftTaking, with_withdrawn}
+use Rattle.nodelet_core.specs.code.Became.{Did, Became}
+use Rattle.nodelet_core.specs.code.Doing.{SentMore, Left, LeftTaking, with_withdrawn}
 use Rattle.nodelet_core.proofs.Arriving.{some_code}
 use Rattle.nodelet_core.proofs.Becoming.{did_then, did_became, became_did}
 use Rattle.nodelet_core.proofs.Outgoing.{sent_nothing, sent_as}

@@ -10,10 +10,10 @@ use Rattle.nodelet_core.specs.declared.tally.Tally.{Tally}
 use Rattle.nodelet_core.specs.declared.counting.Counted.{Counted}
 use Rattle.nodelet_core.specs.declared.counting.Posts.{Posts}
 use Rattle.nodelet_core.specs.declared.counting.Posts.TheVariants as posts
-use Rattle.nodelet_core.specs.Nodes.{Node, Tallies, one_more, with_tallies, with_turn, moved_from, bore_at, posted_to, ended_for, applied_here, sent_away}
-use Rattle.nodelet_core.specs.Effects.{for_each}
-use Rattle.nodelet_core.specs.Tallied.{tallies_of}
-use Rattle.nodelet_core.specs.Counted.{where_so, at_number, with_posts, with_number, counted, one_more_where, elsewhere, with_one, with_all, with_posted, HasCounted}
+use Rattle.core_model.specs.Nodes.{Node, Tallies, one_more, with_tallies, with_turn, moved_from, bore_at, posted_to, ended_for, applied_here, sent_away}
+use Rattle.core_model.specs.Effects.{for_each}
+use Rattle.nodelet_core.specs.code.Tallied.{tallies_of}
+use Rattle.nodelet_core.specs.code.Counted.{where_so, at_number, with_posts, with_number, counted, one_more_where, elsewhere, with_one, with_all, with_posted, HasCounted}
 
 -- ---- lists
 

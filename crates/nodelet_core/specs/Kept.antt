@@ -22,12 +22,12 @@ use Rattle.nodelet_core.specs.declared.due.Due.TheVariants.{Sync}
 use Rattle.nodelet_core.specs.declared.sight.Sight.{Sight}
 use Rattle.nodelet_core.specs.declared.next.Next.{Next}
 use Rattle.nodelet_core.specs.declared.next.Next.TheVariants.{Goes, Waits}
-use Rattle.nodelet_core.specs.Contexts.{context_in, body_in}
-use Rattle.nodelet_core.specs.Nodes.{Setup, Node}
-use Rattle.nodelet_core.specs.Standing.{names_of}
-use Rattle.nodelet_core.specs.Runs.{are_recorded, action_in}
-use Rattle.nodelet_core.specs.Tallied.{tallies_of}
-use Rattle.nodelet_core.specs.Machine.{Packet}
+use Rattle.nodelet_core.specs.Carried.{context_in, body_in}
+use Rattle.core_model.specs.Nodes.{Setup, Node}
+use Rattle.nodelet_core.specs.code.Standing.{names_of}
+use Rattle.core_model.specs.Runs.{are_recorded, action_in}
+use Rattle.nodelet_core.specs.code.Tallied.{tallies_of}
+use Rattle.core_model.specs.Machine.{Packet}
 
 -- The first number that a nodelet gives to a strand that is spawned there: nodelet 0 gave 0 to main.
 abbrev pub first_number : ℕ → ℕ

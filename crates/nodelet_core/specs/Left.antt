@@ -5,10 +5,10 @@ use Rattle.threadlet_code.specs.declared.code.Code.{Code}
 use Rattle.threadlet_state.specs.declared.packet.Packet as sent
 use Rattle.merge_law.specs.Machine as merge
 use Rattle.nodelet_core.specs.declared.nodelet.Nodelet.{Nodelet}
-use Rattle.nodelet_core.specs.Contexts.{body_in}
-use Rattle.nodelet_core.specs.Nodes.{Node}
-use Rattle.nodelet_core.specs.Takes.{can_come}
-use Rattle.nodelet_core.specs.Machine.{Packet, machine_of}
+use Rattle.nodelet_core.specs.Carried.{body_in}
+use Rattle.core_model.specs.Nodes.{Node}
+use Rattle.core_model.specs.Takes.{can_come}
+use Rattle.core_model.specs.Machine.{Packet, machine_of}
 use Rattle.nodelet_core.specs.Kept.{node_of, setup_of, all_fit, packet_in, packet_fits, SameSettings}
 
 -- What an outlet has sent to each nodelet.

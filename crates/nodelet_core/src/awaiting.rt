@@ -1,7 +1,7 @@
 //! Which packets can come to a nodelet.
 
 ghost use Rattle.std.specs.Prelude.{◌≡◌, ◌&&◌, nat_lt};
-ghost use Rattle.nodelet_core.specs.Takes as takes;
+ghost use Rattle.core_model.specs.Takes as takes;
 
 use crate::nodelet::Nodelet;
 use data_layout::{owner, valid};
@@ -13,8 +13,9 @@ impl Nodelet {
     ghost use Rattle.std.specs.Prelude.{◌≡◌, not, ◌&&◌, ◌==◌, nat_lt, is_some};
     ghost use Rattle.data_layout.specs.Address.{is_valid, owner_of};
     ghost use Rattle.threadlet_code.specs.declared.code.Code.{Code};
-    ghost use Rattle.nodelet_core.specs.Takes as takes;
-    ghost use Rattle.nodelet_core.specs.Contexts.{Arrival, context_in, context_of, body_in};
+    ghost use Rattle.core_model.specs.Takes as takes;
+    ghost use Rattle.core_model.specs.Contexts.{Arrival, context_of};
+    ghost use Rattle.nodelet_core.specs.Carried.{context_in, body_in};
     ghost use Rattle.nodelet_core.specs.Kept.{node_of, setup_of, body_fits};
 
     /// Whether a packet from nodelet `origin` can be delivered here, stamps aside, and a context in it fits the

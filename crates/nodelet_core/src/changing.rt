@@ -3,8 +3,8 @@
 ghost use Rattle.std.specs.Prelude.{◌≡◌, ◌<◌, ◌≤◌, length, Contains, IfErr, OnOk, OnErr};
 ghost use Rattle.std.specs.List.{insert, remove};
 ghost use Rattle.world_model.specs.Step.{late_after};
-ghost use Rattle.nodelet_core.specs.Standing.{names_of};
-ghost use Rattle.nodelet_core.specs.Changed.{IsPlace, IsWith, IsWithout, IsTaken, IsLater};
+ghost use Rattle.nodelet_core.specs.code.Standing.{names_of};
+ghost use Rattle.nodelet_core.specs.code.Changed.{IsPlace, IsWith, IsWithout, IsTaken, IsLater};
 
 use crate::standing::Standing;
 use std::alloc::AllocError;

@@ -2,7 +2,7 @@
 
 ghost use Rattle.std.specs.Prelude.{◌≡◌, true, option_map};
 ghost use Rattle.threadlet_state.specs.Fit.{frames_fit};
-ghost use Rattle.nodelet_core.specs.Doing.{Hands};
+ghost use Rattle.nodelet_core.specs.code.Doing.{Hands};
 
 use crate::counting::Counted;
 use crate::due::Hint;
@@ -25,20 +25,20 @@ impl Nodelet {
     ghost use Rattle.std.specs.Prelude.{◌≡◌, ◌≢◌, ◌<◌, ◌-◌, ◌^◌, ℕ, suc, None, false, true, option_map, IfOk, OnOk, OnErr, Option, Some};
     ghost use Rattle.world_model.specs.Effect.{birthplace};
     ghost use Rattle.world_model.specs.Sight.{is_bad};
-    ghost use Rattle.nodelet_core.specs.Dues.{asked, asked_hint};
+    ghost use Rattle.nodelet_core.specs.code.Dues.{asked, asked_hint};
     ghost use Rattle.threadlet_code.specs.declared.code.Code.{Code};
     ghost use Rattle.nodelet_core.specs.declared.due.Hint.{Hint as ChildHint};
     ghost use Rattle.word_ops.specs.declared.ticket.Ticket.{Ticket as ChildTicket};
     ghost use Rattle.spawn_tree.specs.Joining.{result_of};
-    ghost use Rattle.nodelet_core.specs.Contexts.{context_in};
-    ghost use Rattle.nodelet_core.specs.Effects.{ended, next_name};
-    ghost use Rattle.nodelet_core.specs.Runs.{gone};
-    ghost use Rattle.nodelet_core.specs.Standing.{is_among};
+    ghost use Rattle.nodelet_core.specs.Carried.{context_in};
+    ghost use Rattle.core_model.specs.Effects.{ended, next_name};
+    ghost use Rattle.core_model.specs.Runs.{gone};
+    ghost use Rattle.nodelet_core.specs.code.Standing.{is_among};
     ghost use Rattle.merge_law.specs.Machine.{is_linked};
     ghost use Rattle.nodelet_core.specs.declared.due.Due.TheVariants as due;
     ghost use Rattle.nodelet_core.specs.Kept.{node_of, IsUnchanged};
     ghost use Rattle.nodelet_core.specs.Left.{Sent};
-    ghost use Rattle.nodelet_core.specs.Doing.{Left, IsDueHere, HadEffect, IsChild};
+    ghost use Rattle.nodelet_core.specs.code.Doing.{Left, IsDueHere, HadEffect, IsChild};
 
     /// A child is born here, or at the owner of its hint.
     pub(crate) fn spawn<O: Outlet>(

@@ -8,12 +8,13 @@ use word_ops::{Box, Name, Pos};
 impl Nodelet {
     ghost use Rattle.std.specs.Prelude.{◌≡◌, [], ◌∷◌, true, Contains, IfErr, OnOk, OnErr};
     ghost use Rattle.word_ops.specs.declared.name.Name.{Name as StrandName};
-    ghost use Rattle.nodelet_core.specs.Contexts.{context_in, context_of};
-    ghost use Rattle.nodelet_core.specs.Nodes.{with_strand, without_strand};
-    ghost use Rattle.nodelet_core.specs.Takes.{made_late};
-    ghost use Rattle.nodelet_core.specs.Standing.{is_among};
+    ghost use Rattle.core_model.specs.Contexts.{context_of};
+    ghost use Rattle.nodelet_core.specs.Carried.{context_in};
+    ghost use Rattle.core_model.specs.Nodes.{with_strand, without_strand};
+    ghost use Rattle.core_model.specs.Takes.{made_late};
+    ghost use Rattle.nodelet_core.specs.code.Standing.{is_among};
     ghost use Rattle.nodelet_core.specs.Kept.{names_at, IsUnchanged};
-    ghost use Rattle.nodelet_core.specs.Became.{Became};
+    ghost use Rattle.nodelet_core.specs.code.Became.{Became};
 
     /// A context takes the place of the one of its name, whose frames are room for the next copy.
     pub(crate) fn replace(&mut self, x: Context)

@@ -3,7 +3,7 @@
 ghost use Rattle.std.specs.Prelude.{◌≡◌, ◌+◌, ◌<◌, ◌≤◌, ◌^◌, ℕ, length, slice_index, false, None};
 ghost use Rattle.word_ops.specs.Report.{below};
 ghost use Rattle.nodelet_core.specs.declared.counting.Posts.TheVariants as posts;
-ghost use Rattle.nodelet_core.specs.Counted.{one_more_where, elsewhere, with_one, with_all, with_posted, IsUnder, are_posted, HasRoom, HasGrown};
+ghost use Rattle.nodelet_core.specs.code.Counted.{one_more_where, elsewhere, with_one, with_all, with_posted, IsUnder, are_posted, HasRoom, HasGrown};
 
 use crate::nodelet::Nodelet;
 use crate::tally::{Tally, count_one};
@@ -119,8 +119,8 @@ fn count_posts(counts: &mut List<u64>, posts: Posts)
 
 impl Tally {
     ghost use Rattle.std.specs.Prelude.{◌<◌, ◌≤◌, suc};
-    ghost use Rattle.nodelet_core.specs.Tallied.{HasSize, IsBounded};
-    ghost use Rattle.nodelet_core.specs.Counted.{NamesAmong, HasCounted};
+    ghost use Rattle.nodelet_core.specs.code.Tallied.{HasSize, IsBounded};
+    ghost use Rattle.nodelet_core.specs.code.Counted.{NamesAmong, HasCounted};
 
     /// Counts what an event counts at nodelet `here` of other nodelets.
     fn count(&mut self, n: u32, here: u32, stamp: u64, event: Counted)
@@ -160,10 +160,10 @@ fn with_event(counts: Counts3, event: Counted) -> Counts3
 
 impl Nodelet {
     ghost use Rattle.std.specs.Prelude.{◌<◌};
-    ghost use Rattle.nodelet_core.specs.Nodes.{applied_here};
-    ghost use Rattle.nodelet_core.specs.Machine.{stamped_node};
-    ghost use Rattle.nodelet_core.specs.Counted.{counted, NamesAmong};
-    ghost use Rattle.nodelet_core.specs.Became.{Did};
+    ghost use Rattle.core_model.specs.Nodes.{applied_here};
+    ghost use Rattle.core_model.specs.Machine.{stamped_node};
+    ghost use Rattle.nodelet_core.specs.code.Counted.{counted, NamesAmong};
+    ghost use Rattle.nodelet_core.specs.code.Became.{Did};
 
     /// The nodelet has the stamp of an event, and counts what the event counts.
     pub(crate) fn count(&mut self, stamp: u64, event: Counted)

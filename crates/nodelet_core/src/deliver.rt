@@ -1,7 +1,7 @@
 //! A nodelet takes a packet.
 
 ghost use Rattle.std.specs.Prelude.{◌≡◌};
-ghost use Rattle.nodelet_core.specs.Doing.{step_of_body};
+ghost use Rattle.nodelet_core.specs.code.Doing.{step_of_body};
 
 use crate::nodelet::Nodelet;
 use mem_atomics::{Op, apply};
@@ -15,16 +15,16 @@ impl Nodelet {
     ghost use Rattle.threadlet_state.specs.declared.packet.Body.TheVariants as by;
     ghost use Rattle.world_model.specs.World as world;
     ghost use Rattle.ack_fence.specs.Counting.{count_of};
-    ghost use Rattle.nodelet_core.specs.Contexts.{context_in};
-    ghost use Rattle.nodelet_core.specs.Nodes as nodes;
-    ghost use Rattle.nodelet_core.specs.Takes as takes;
-    ghost use Rattle.nodelet_core.specs.Takes.{with_item, late_of};
-    ghost use Rattle.nodelet_core.specs.Machine.{stamped_node};
-    ghost use Rattle.nodelet_core.specs.Standing.{is_among};
+    ghost use Rattle.nodelet_core.specs.Carried.{context_in};
+    ghost use Rattle.core_model.specs.Nodes as nodes;
+    ghost use Rattle.core_model.specs.Takes as takes;
+    ghost use Rattle.core_model.specs.Takes.{with_item, late_of};
+    ghost use Rattle.core_model.specs.Machine.{stamped_node};
+    ghost use Rattle.nodelet_core.specs.code.Standing.{is_among};
     ghost use Rattle.nodelet_core.specs.Kept.{node_of, setup_of, all_fit, body_fits, IsUnchanged};
     ghost use Rattle.nodelet_core.specs.Left.{HasTaken, IsAwaited};
-    ghost use Rattle.nodelet_core.specs.Became.{Became, Did};
-    ghost use Rattle.nodelet_core.specs.Doing.{IsAwaitedBody, LeftTaking};
+    ghost use Rattle.nodelet_core.specs.code.Became.{Became, Did};
+    ghost use Rattle.nodelet_core.specs.code.Doing.{IsAwaitedBody, LeftTaking};
 
     /// Takes a packet from nodelet `origin`: a strand goes on here, an operation or a grant of a strand is done
     /// and acknowledged to `origin`, word that one is done is taken, or the result of a child is kept. Want of

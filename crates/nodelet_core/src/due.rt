@@ -11,10 +11,10 @@ ghost use Rattle.threadlet_code.specs.Machine.{action_of, memory_action, step};
 ghost use Rattle.threadlet_code.specs.Machine as machine;
 ghost use Rattle.threadlet_state.specs.Activations.{state_of};
 ghost use Rattle.threadlet_state.specs.Fit.{frames_fit};
-ghost use Rattle.nodelet_core.specs.Dues.{due_of, request_of};
+ghost use Rattle.nodelet_core.specs.code.Dues.{due_of, request_of};
 ghost use Rattle.nodelet_core.specs.declared.due.Due.TheVariants as due;
-ghost use Rattle.nodelet_core.specs.Operands.{needs};
-ghost use Rattle.nodelet_core.specs.Runs.{action_in};
+ghost use Rattle.nodelet_core.specs.code.Operands.{needs};
+ghost use Rattle.core_model.specs.Runs.{action_in};
 
 use crate::operands::top_words;
 use mem_atomics::{FetchOp, Op};

@@ -3,7 +3,7 @@
 use crate::counting::Counted;
 use crate::due::Due;
 use crate::nodelet::Nodelet;
-use crate::trapped::Trapped;
+use core_model::Trapped;
 use std::alloc::AllocError;
 use threadlet_code::Verified;
 use threadlet_state::{Context, Outlet, answer};
@@ -13,12 +13,12 @@ impl Nodelet {
     ghost use Rattle.std.specs.Prelude.{◌≡◌, ◌<◌, ◌-◌, ◌^◌, ℕ, [], ◌∷◌, true, Contains, OnOk, OnErr};
     ghost use Rattle.merge_law.specs.Machine.{is_linked};
     ghost use Rattle.nodelet_core.specs.declared.due.Due.TheVariants as due;
-    ghost use Rattle.nodelet_core.specs.Standing.{is_among};
-    ghost use Rattle.nodelet_core.specs.Counted.{IsUnder, NamesAmong};
+    ghost use Rattle.nodelet_core.specs.code.Standing.{is_among};
+    ghost use Rattle.nodelet_core.specs.code.Counted.{IsUnder, NamesAmong};
     ghost use Rattle.nodelet_core.specs.Kept.{names_at, IsUnchanged};
     ghost use Rattle.nodelet_core.specs.Left.{Sent};
-    ghost use Rattle.nodelet_core.specs.Became.{Became};
-    ghost use Rattle.nodelet_core.specs.Doing.{IsDueHere, HadEffect, PassesWith, is_quiet, goes_on_at, goes_from, traps_at, placed};
+    ghost use Rattle.nodelet_core.specs.code.Became.{Became};
+    ghost use Rattle.nodelet_core.specs.code.Doing.{IsDueHere, HadEffect, PassesWith, is_quiet, goes_on_at, goes_from, traps_at, placed};
 
     /// The action that a context is due has its effect here: the context goes on, or is gone. Want of memory changes
     /// nothing.

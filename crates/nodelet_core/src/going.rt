@@ -22,11 +22,11 @@ impl Nodelet {
     ghost use Rattle.threadlet_code.specs.Running.{halt};
     ghost use Rattle.threadlet_state.specs.Activations.{state_of};
     ghost use Rattle.threadlet_state.specs.Fit.{frames_fit};
-    ghost use Rattle.nodelet_core.specs.Contexts.{context_in};
-    ghost use Rattle.nodelet_core.specs.Dues.{asked, due_of, way_seen};
+    ghost use Rattle.nodelet_core.specs.Carried.{context_in};
+    ghost use Rattle.nodelet_core.specs.code.Dues.{asked, due_of, way_seen};
     ghost use Rattle.nodelet_core.specs.declared.due.Due.TheVariants.{Sync};
-    ghost use Rattle.nodelet_core.specs.Runs as runs;
-    ghost use Rattle.nodelet_core.specs.Runs.{are_recorded};
+    ghost use Rattle.core_model.specs.Runs as runs;
+    ghost use Rattle.core_model.specs.Runs.{are_recorded};
     ghost use Rattle.nodelet_core.specs.Kept.{node_of, setup_of, all_fit, carried_at, is_at_turn, next_by, SeesFor};
 
     /// Whether the context of a name can go on: it waits exactly where it is not here, or an action comes next

@@ -6,13 +6,13 @@ ghost use Rattle.word_ops.specs.declared.name.Name.{Name as StrandName};
 ghost use Rattle.world_model.specs.Allocation.{taken_from};
 ghost use Rattle.ack_fence.specs.Counting.{count_of};
 ghost use Rattle.service.specs.Requests.{IsAtOneOf, taken_by};
-ghost use Rattle.nodelet_core.specs.Dues.{asked_request};
-ghost use Rattle.nodelet_core.specs.Doing.{IsServedHere};
+ghost use Rattle.nodelet_core.specs.code.Dues.{asked_request};
+ghost use Rattle.nodelet_core.specs.code.Doing.{IsServedHere};
 
 use crate::due::Request;
 use crate::nodelet::Nodelet;
-use crate::trapped::Trapped;
 use ack_fence::Counts;
+use core_model::Trapped;
 use service::AllocKind;
 use std::alloc::AllocError;
 use word_ops::{Entry, List, Name, Ticket};
@@ -25,11 +25,11 @@ impl Nodelet {
     ghost use Rattle.nodelet_mem.specs.Words.{word_of, grant_room};
     ghost use Rattle.spawn_tree.specs.Joining.{result_of, AllRecorded};
     ghost use Rattle.ack_fence.specs.Counting.{count_of};
-    ghost use Rattle.nodelet_core.specs.Dues.{asked_request};
-    ghost use Rattle.nodelet_core.specs.Nodes.{with_word, with_grant, with_issued, with_result, without_results, with_piece, with_trap};
+    ghost use Rattle.nodelet_core.specs.code.Dues.{asked_request};
+    ghost use Rattle.core_model.specs.Nodes.{with_word, with_grant, with_issued, with_result, without_results, with_piece, with_trap};
     ghost use Rattle.nodelet_core.specs.Kept.{node_of, IsUnchanged};
-    ghost use Rattle.nodelet_core.specs.Became.{Did, HasEntered};
-    ghost use Rattle.nodelet_core.specs.Doing.{with_withdrawn, with_value, address_for, with_cursors, IsServedHere};
+    ghost use Rattle.nodelet_core.specs.code.Became.{Did, HasEntered};
+    ghost use Rattle.nodelet_core.specs.code.Doing.{with_withdrawn, with_value, address_for, with_cursors, IsServedHere};
 
     /// The word at an address.
     pub(crate) fn word(&self, address: i64) -> i64

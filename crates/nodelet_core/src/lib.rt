@@ -24,12 +24,11 @@ mod sight;
 mod standing;
 mod start;
 mod tally;
-mod trapped;
 
+pub use core_model::Trapped;
 pub use next::Next;
 pub use nodelet::Nodelet;
 pub use tally::Tally;
-pub use trapped::Trapped;
 
 #[cfg(test)]
 mod tests;

@@ -18,7 +18,7 @@ impl Nodelet {
     ghost use Rattle.nodelet_core.specs.declared.due.Due.TheVariants as due;
     ghost use Rattle.nodelet_core.specs.Kept.{IsUnchanged};
     ghost use Rattle.nodelet_core.specs.Left.{Sent};
-    ghost use Rattle.nodelet_core.specs.Doing.{IsDueHere, HadEffect, is_post};
+    ghost use Rattle.nodelet_core.specs.code.Doing.{IsDueHere, HadEffect, is_post};
 
     /// A load answers the word.
     pub(crate) fn load(

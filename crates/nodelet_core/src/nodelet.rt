@@ -1,11 +1,11 @@
 ghost use Rattle.std.specs.Prelude.{◌≡◌, ◌<◌, ◌≤◌, true};
-ghost use Rattle.nodelet_core.specs.Standing.{are_among};
-ghost use Rattle.nodelet_core.specs.Tallied.{HasSize, IsBounded};
+ghost use Rattle.nodelet_core.specs.code.Standing.{are_among};
+ghost use Rattle.nodelet_core.specs.code.Tallied.{HasSize, IsBounded};
 
 use crate::standing::Standing;
 use crate::tally::Tally;
-use crate::trapped::Trapped;
 use ack_fence::Counts;
+use core_model::Trapped;
 use nodelet_mem::Words;
 use service::Services;
 use spawn_tree::Joins;

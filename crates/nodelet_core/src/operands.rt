@@ -2,7 +2,7 @@
 
 ghost use Rattle.std.specs.Prelude.{◌≤◌};
 ghost use Rattle.threadlet_state.specs.Fit.{IsLaidOut};
-ghost use Rattle.nodelet_core.specs.Operands.{AreTop};
+ghost use Rattle.nodelet_core.specs.code.Operands.{AreTop};
 
 use threadlet_code::FuncCode;
 use threadlet_state::Frame;

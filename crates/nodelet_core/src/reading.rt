@@ -4,7 +4,7 @@ ghost use Rattle.std.specs.Prelude.{◌≡◌};
 
 use crate::nodelet::Nodelet;
 use crate::tally::Tally;
-use crate::trapped::Trapped;
+use core_model::Trapped;
 use nodelet_mem::Words;
 use word_ops::{Counts3, Entry, List, Name};
 

@@ -20,15 +20,15 @@ impl Nodelet {
     ghost use Rattle.merge_law.specs.Machine.{is_linked};
     ghost use Rattle.nodelet_core.specs.Kept.{node_of, setup_of, all_fit, names_at, next_by, IsUnchanged};
     ghost use Rattle.nodelet_core.specs.declared.next.Next.TheVariants.{Goes};
-    ghost use Rattle.nodelet_core.specs.Runs as runs;
+    ghost use Rattle.core_model.specs.Runs as runs;
     ghost use Rattle.nodelet_core.specs.Left.{Sent, HasRun};
-    ghost use Rattle.nodelet_core.specs.Nodes as nodes;
-    ghost use Rattle.nodelet_core.specs.Contexts.{context_in};
-    ghost use Rattle.nodelet_core.specs.Machine.{stamped_node};
-    ghost use Rattle.nodelet_core.specs.Dues.{asked};
-    ghost use Rattle.nodelet_core.specs.Standing.{is_among};
-    ghost use Rattle.nodelet_core.specs.Became.{Became};
-    ghost use Rattle.nodelet_core.specs.Doing.{Left, CanStand, IsWayOf, FollowedWay, LeavesEntry, child_named};
+    ghost use Rattle.core_model.specs.Nodes as nodes;
+    ghost use Rattle.nodelet_core.specs.Carried.{context_in};
+    ghost use Rattle.core_model.specs.Machine.{stamped_node};
+    ghost use Rattle.nodelet_core.specs.code.Dues.{asked};
+    ghost use Rattle.nodelet_core.specs.code.Standing.{is_among};
+    ghost use Rattle.nodelet_core.specs.code.Became.{Became};
+    ghost use Rattle.nodelet_core.specs.code.Doing.{Left, CanStand, IsWayOf, FollowedWay, LeavesEntry, child_named};
 
     /// The context of a name that is here goes on: it takes up its silent instructions, and then the action
     /// behind them, which is done here, or for which the context is sent away whole, or before which it stays.

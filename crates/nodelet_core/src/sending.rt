@@ -2,9 +2,10 @@
 
 ghost use Rattle.std.specs.Prelude.{◌≡◌};
 ghost use Rattle.threadlet_code.specs.declared.code.Code.{Code};
-ghost use Rattle.nodelet_core.specs.Contexts.{Issued, body_in};
-ghost use Rattle.nodelet_core.specs.Told.{body_for};
-ghost use Rattle.nodelet_core.specs.Doing.{item_of};
+ghost use Rattle.core_model.specs.Contexts.{Issued};
+ghost use Rattle.nodelet_core.specs.Carried.{body_in};
+ghost use Rattle.nodelet_core.specs.code.Told.{body_for};
+ghost use Rattle.nodelet_core.specs.code.Doing.{item_of};
 
 use crate::nodelet::Nodelet;
 use mem_atomics::Op;
@@ -52,9 +53,9 @@ pub(crate) fn body_of(name: Name, item: Item) -> Body
 impl Nodelet {
     ghost use Rattle.std.specs.Prelude.{◌≤◌, ℕ, true, OnOk};
     ghost use Rattle.merge_law.specs.Machine.{is_linked};
-    ghost use Rattle.nodelet_core.specs.Effects.{only_to, to_all};
+    ghost use Rattle.core_model.specs.Effects.{only_to, to_all};
     ghost use Rattle.nodelet_core.specs.Kept.{body_fits};
-    ghost use Rattle.nodelet_core.specs.Doing.{SentMore};
+    ghost use Rattle.nodelet_core.specs.code.Doing.{SentMore};
 
     /// There is room for a packet to each other nodelet. Want of memory leaves at least the room that there was.
     pub(crate) fn make_room<O: Outlet>(&self, out: &mut O) -> Result<(), AllocError>

@@ -8,9 +8,9 @@ ghost use Rattle.threadlet_code.specs.Machine.{step};
 ghost use Rattle.threadlet_state.specs.Activations.{state_of};
 ghost use Rattle.threadlet_state.specs.Fit.{frames_fit};
 ghost use Rattle.nodelet_core.specs.declared.due.Due.TheVariants as due;
-ghost use Rattle.nodelet_core.specs.Dues.{due_of};
-ghost use Rattle.nodelet_core.specs.Runs.{action_in};
-ghost use Rattle.nodelet_core.specs.Doing as spec;
+ghost use Rattle.nodelet_core.specs.code.Dues.{due_of};
+ghost use Rattle.core_model.specs.Runs.{action_in};
+ghost use Rattle.nodelet_core.specs.code.Doing as spec;
 
 use crate::counting::Counted;
 use crate::due::Request;
@@ -33,12 +33,12 @@ impl Nodelet {
     ghost use Rattle.merge_law.specs.Machine.{is_linked};
     ghost use Rattle.nodelet_core.specs.declared.due.Due.TheVariants as due;
     ghost use Rattle.nodelet_core.specs.Kept.{node_of, IsUnchanged};
-    ghost use Rattle.nodelet_core.specs.Dues.{asked_request};
-    ghost use Rattle.nodelet_core.specs.Effects.{with_fresh};
-    ghost use Rattle.nodelet_core.specs.Nodes.{with_issued};
-    ghost use Rattle.nodelet_core.specs.Became.{Did};
+    ghost use Rattle.nodelet_core.specs.code.Dues.{asked_request};
+    ghost use Rattle.core_model.specs.Effects.{with_fresh};
+    ghost use Rattle.core_model.specs.Nodes.{with_issued};
+    ghost use Rattle.nodelet_core.specs.code.Became.{Did};
     ghost use Rattle.nodelet_core.specs.Left.{Sent};
-    ghost use Rattle.nodelet_core.specs.Doing.{SentMore, IsDueHere, HadEffect, IsServedHere, address_for, fresh_of, grant_for, grant_sends, with_taken, kept_for, is_local};
+    ghost use Rattle.nodelet_core.specs.code.Doing.{SentMore, IsDueHere, HadEffect, IsServedHere, address_for, fresh_of, grant_for, grant_sends, with_taken, kept_for, is_local};
 
     /// A print keeps a piece of output here.
     pub(crate) fn print(&mut self, code: &Verified, mut context: Context) -> Result<(), AllocError>

@@ -3,8 +3,8 @@
 ghost use Rattle.std.specs.Prelude.{◌≡◌, ◌<◌, ◌≤◌, true, false};
 ghost use Rattle.world_model.specs.Action as act;
 ghost use Rattle.world_model.specs.Sight as world;
-ghost use Rattle.nodelet_core.specs.Dues.{asked, seen, way_seen};
-ghost use Rattle.nodelet_core.specs.Runs as runs;
+ghost use Rattle.nodelet_core.specs.code.Dues.{asked, seen, way_seen};
+ghost use Rattle.core_model.specs.Runs as runs;
 
 use crate::due::{Due, Hint, Request};
 use data_layout::{owner, valid, view};

@@ -2,7 +2,7 @@
 
 ghost use Rattle.std.specs.Prelude.{◌≡◌, [], ◌∷◌, true, IfOk};
 ghost use Rattle.std.specs.Option.{option_copied};
-ghost use Rattle.nodelet_core.specs.Standing.{names_of, ascends, IsFound};
+ghost use Rattle.nodelet_core.specs.code.Standing.{names_of, ascends, IsFound};
 
 use std::alloc::{AllocError, Global};
 use threadlet_state::Context;

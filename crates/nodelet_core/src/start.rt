@@ -5,10 +5,10 @@ ghost use Rattle.std.specs.List.{list_all, list_any};
 ghost use Rattle.nodelet_mem.specs.Words.{word_of, is_granted};
 ghost use Rattle.world_model.specs.World.{lies_in};
 ghost use Rattle.world_model.specs.Run.{first_grants};
-ghost use Rattle.nodelet_core.specs.Contexts.{context_in};
-ghost use Rattle.nodelet_core.specs.Standing.{are_among};
-ghost use Rattle.nodelet_core.specs.Nodes.{Setup};
-ghost use Rattle.nodelet_core.specs.Start.{start_node};
+ghost use Rattle.nodelet_core.specs.Carried.{context_in};
+ghost use Rattle.nodelet_core.specs.code.Standing.{are_among};
+ghost use Rattle.core_model.specs.Nodes.{Setup};
+ghost use Rattle.core_model.specs.Start.{start_node};
 ghost use Rattle.nodelet_core.specs.Kept.{node_of, setup_of, all_fit, context_fits};
 
 use crate::nodelet::Nodelet;

@@ -1,5 +1,5 @@
 ghost use Rattle.std.specs.Prelude.{◌≡◌, ℕ, ◌+◌, ◌<◌, ◌^◌, length, slice_index, slice_set, IfOk};
-ghost use Rattle.nodelet_core.specs.Tallied.{IsBlank};
+ghost use Rattle.nodelet_core.specs.code.Tallied.{IsBlank};
 
 use std::alloc::{AllocError, Global};
 use word_ops::List;

@@ -15,7 +15,7 @@ use Rattle.world_model.specs.World.{Setting, Item, Operation, Grant, Strand, Wor
 use Rattle.world_model.specs.Effect.{sight_of, effect, own_effect, served_with}
 use Rattle.world_model.specs.Step.{due, used_at_once, Refusal, refused_as_bad, refused_as_late, refused_as_outside, refusal_of, done_by, acted, applied_at, step}
 use Rattle.world_model.specs.Run.{is_turn, lacks_turn}
-use Rattle.nodelet_core.specs.Nodes.{Setup}
+use Rattle.core_model.specs.Nodes.{Setup}
 
 -- a meaning on the nodelets of a run
 abbrev pub on : Setup → Meaning → Setting

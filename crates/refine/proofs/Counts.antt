@@ -15,8 +15,8 @@ use Rattle.world_model.specs.World.{Setting, Strand, World, strand_of}
 use Rattle.world_model.specs.Step.{due, refusal_of, Refusal, step}
 use Rattle.world_model.specs.Run.{start, Transition, transitions}
 use Rattle.world_model.specs.Traffic.{births_of, posts_of, dones_of, turns_of, applied_of, effective, by_action, moves_in, applied_in, tally, table, traffic_of}
-use Rattle.nodelet_core.specs.Nodes.{Setup}
-use Rattle.sim_core.specs.Core.{setting_of}
+use Rattle.core_model.specs.Nodes.{Setup}
+use Rattle.core_model.specs.Core.{setting_of}
 use Rattle.refine.specs.Programs.{program_on}
 use Rattle.refine.proofs.Known.{AllTake, start_known, step_known}
 use Rattle.refine.proofs.Alike.{on, DueAlike, due-alike, refusal-alike}

@@ -11,12 +11,12 @@ use Rattle.threadlet_code.specs.Breaches.{is_sound}
 use Rattle.codegen_expr.specs.Implements.{Implements}
 use Rattle.world_model.specs.World.{World}
 use Rattle.world_model.specs.Run.{start, run_of, Rest, end_of}
-use Rattle.nodelet_core.specs.Nodes.{Setup, Node}
-use Rattle.nodelet_core.specs.Machine.{Packet}
-use Rattle.sim_core.specs.Core.{Core, setting_of, census}
-use Rattle.sim_core.specs.Agreement.{IsOf, ContextsAreOf}
-use Rattle.sim_core.specs.Reached.{Reached, stepped, reached, first_trapped}
-use Rattle.sim_core.specs.Laws.{IsRunOfEvents, IsLiveIn, TellsFirstTraps, CountsTraffic, HasEnded, MainHasEnded, TurnsAreSpent, parts_of}
+use Rattle.core_model.specs.Nodes.{Setup, Node}
+use Rattle.core_model.specs.Machine.{Packet}
+use Rattle.core_model.specs.Core.{Core, setting_of, census}
+use Rattle.core_model.specs.Agreement.{IsOf, ContextsAreOf}
+use Rattle.core_model.specs.Reached.{Reached, stepped, reached, first_trapped}
+use Rattle.core_model.specs.Laws.{IsRunOfEvents, IsLiveIn, TellsFirstTraps, CountsTraffic, HasEnded, MainHasEnded, TurnsAreSpent, parts_of}
 use Rattle.refine.specs.Programs.{program_on}
 use Rattle.refine.proofs.Known.{AllTake, start_known, step_known}
 use Rattle.refine.proofs.Alike.{due-alike, lacks-alike}

@@ -19,10 +19,10 @@ use Rattle.threadlet_code.specs.Fitting.{Fits}
 use Rattle.threadlet_code.proofs.FitLaws.{starts_fit, answer_fits, children_fit}
 use Rattle.threadlet_code.proofs.Halting.{halts_at_due}
 use Rattle.threadlet_code.proofs.Leads.{rules_are_kept}
-use Rattle.nodelet_core.specs.Nodes.{Setup}
-use Rattle.sim_core.specs.Core.{setting_of}
-use Rattle.nodelet_core.proofs.Nexting.{halted_fits}
-use Rattle.sim_core.proofs.Lasts.{IsLast, IsSorted, step_sorted}
+use Rattle.core_model.specs.Nodes.{Setup}
+use Rattle.core_model.specs.Core.{setting_of}
+use Rattle.core_model.proofs.Halted.{halted_fits}
+use Rattle.core_model.proofs.Actions.LastActions.{IsLast, IsSorted, step_sorted}
 use Rattle.refine.proofs.Each.{Each, step-each}
 
 -- a function of the code takes so many arguments

@@ -21,8 +21,8 @@ use Rattle.world_model.specs.Meaning.{Meaning}
 use Rattle.world_model.specs.World.{Strand, World, value_of, main_name}
 use Rattle.world_model.specs.Step.{last_of, due_in, due, step}
 use Rattle.world_model.specs.Run.{start, run_from, run_of, Transition, transitions, trap_by, first_trap, end_in, end_of, spent_stamps, spent_turns, lacks_turn}
-use Rattle.nodelet_core.specs.Nodes.{Setup}
-use Rattle.sim_core.specs.Core.{setting_of}
+use Rattle.core_model.specs.Nodes.{Setup}
+use Rattle.core_model.specs.Core.{setting_of}
 use Rattle.refine.specs.Programs.{program_on}
 use Rattle.refine.proofs.Each.{Each}
 use Rattle.refine.proofs.Known.{Takes, AllTake, start_known, step_known}

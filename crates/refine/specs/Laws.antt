@@ -12,11 +12,11 @@ use Rattle.codegen_expr.specs.Implements.{Implements}
 use Rattle.world_model.specs.World.{World}
 use Rattle.world_model.specs.Run.{start, run_of, transitions, end_of}
 use Rattle.world_model.specs.Traffic.{traffic_of}
-use Rattle.nodelet_core.specs.Nodes.{Setup, Node}
-use Rattle.nodelet_core.specs.Machine.{Packet}
-use Rattle.sim_core.specs.Core.{setting_of, census}
-use Rattle.sim_core.specs.Agreement.{PendingTravels}
-use Rattle.sim_core.specs.Laws.{IsPlayed, IsRunOfEvents, IsLiveIn, TellsFirstTraps, CountsTraffic, IsStill, HasEnded, parts_of}
+use Rattle.core_model.specs.Nodes.{Setup, Node}
+use Rattle.core_model.specs.Machine.{Packet}
+use Rattle.core_model.specs.Core.{setting_of, census}
+use Rattle.core_model.specs.Agreement.{PendingTravels}
+use Rattle.core_model.specs.Laws.{IsPlayed, IsRunOfEvents, IsLiveIn, TellsFirstTraps, CountsTraffic, IsStill, HasEnded, parts_of}
 use Rattle.refine.specs.Programs.{program_on}
 
 -- ---- runs of the code and of the program

@@ -2,7 +2,7 @@
 use Rattle.cilk_ast.specs.declared.program.Program.{Program}
 use Rattle.cilk_model.specs.ProgramMeaning.{meaning_of}
 use Rattle.world_model.specs.World.{Setting}
-use Rattle.nodelet_core.specs.Nodes.{Setup}
+use Rattle.core_model.specs.Nodes.{Setup}
 
 -- What a program means on the nodelets and turns of a run, under its rules.
 abbrev pub program_on : Setup → Program → Setting

@@ -4,9 +4,9 @@ use Rattle.std.proofs.Common.{◌≡◌, ◌⊎◌, ℕ, List, [], ◌∷◌, So
 use Rattle.rand_pcg.specs.Pcg.{pcg32}
 use Rattle.merge_law.specs.declared.event.Event.{Event}
 use Rattle.merge_law.specs.Core.{After, after}
-use Rattle.nodelet_core.specs.Nodes.{Setup, Node}
-use Rattle.nodelet_core.specs.Machine.{Packet, machine_of}
-use Rattle.sim_core.specs.Core.{Core, legal_events}
+use Rattle.core_model.specs.Nodes.{Setup, Node}
+use Rattle.core_model.specs.Machine.{Packet, machine_of}
+use Rattle.core_model.specs.Core.{Core, legal_events}
 use Rattle.serial_sim.specs.Schedule.{picked, has_trapped, IsPicked, OneSchedule}
 
 -- where a schedule has ended no event is picked

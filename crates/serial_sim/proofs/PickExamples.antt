@@ -11,10 +11,10 @@ use Rattle.merge_law.specs.declared.event.Event.{Event}
 use Rattle.merge_law.specs.declared.event.Event.TheVariants.{Run, Take}
 use Rattle.merge_law.specs.Core.{after}
 use Rattle.threadlet_code.specs.declared.instr.Instr.TheVariants as by
-use Rattle.nodelet_core.specs.Nodes.{Setup}
-use Rattle.nodelet_core.specs.Machine.{machine_of}
-use Rattle.sim_core.specs.Core.{Core, start_core}
-use Rattle.sim_core.proofs.Samples.{function, setup, main}
+use Rattle.core_model.specs.Nodes.{Setup}
+use Rattle.core_model.specs.Machine.{machine_of}
+use Rattle.core_model.specs.Core.{Core, start_core}
+use Rattle.core_model.proofs.Examples.Samples.{function, setup, main}
 use Rattle.serial_sim.specs.Schedule.{generator_of, picked}
 
 -- two stores to a word of nodelet 1, and a load of it

@@ -7,9 +7,9 @@ use Rattle.rand_pcg.specs.Pcg.{pcg32, pcg32_of_seed}
 use Rattle.word_ops.specs.Report.{below}
 use Rattle.merge_law.specs.declared.event.Event.{Event}
 use Rattle.merge_law.specs.Core.{After, after}
-use Rattle.nodelet_core.specs.Nodes.{Setup, Node}
-use Rattle.nodelet_core.specs.Machine.{Packet, machine_of}
-use Rattle.sim_core.specs.Core.{Core, legal_events}
+use Rattle.core_model.specs.Nodes.{Setup, Node}
+use Rattle.core_model.specs.Machine.{Packet, machine_of}
+use Rattle.core_model.specs.Core.{Core, legal_events}
 
 -- The generator of a seed.
 abbrev pub generator_of : ℕ → Lcg

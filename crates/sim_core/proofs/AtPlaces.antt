@@ -6,7 +6,7 @@ use Rattle.std.proofs.lemmas.Grind.{flat_map-append}
 use Rattle.std.proofs.lemmas.List.{take_more}
 use Rattle.std.proofs.lemmas.List.Elements.{filter_map-append}
 use Rattle.word_ops.specs.Report.{below}
-use Rattle.sim_core.proofs.Sees.{both_true}
+use Rattle.core_model.proofs.Actions.Sights.{both_true}
 
 -- ---- what holds of all items
 

@@ -10,15 +10,16 @@ use Rattle.threadlet_state.specs.declared.packet.Packet as sent
 use Rattle.threadlet_state.specs.declared.packet.Body as sent_body
 use Rattle.threadlet_state.specs.declared.packet.Body.TheVariants as by
 use Rattle.nodelet_core.specs.declared.nodelet.Nodelet.{Nodelet}
-use Rattle.nodelet_core.specs.Contexts.{Context, context_in, body_in}
-use Rattle.nodelet_core.specs.Standing.{names_of}
-use Rattle.nodelet_core.specs.Nodes.{Setup}
-use Rattle.nodelet_core.specs.Machine.{Packet}
+use Rattle.core_model.specs.Contexts.{Context}
+use Rattle.nodelet_core.specs.Carried.{context_in, body_in}
+use Rattle.nodelet_core.specs.code.Standing.{names_of}
+use Rattle.core_model.specs.Nodes.{Setup}
+use Rattle.core_model.specs.Machine.{Packet}
 use Rattle.nodelet_core.specs.Kept.{carried_at, names_at, packet_in}
 use Rattle.sim_core.specs.declared.outgoing.Outgoing.{Outgoing}
-use Rattle.sim_core.specs.Core.{traveller}
-use Rattle.sim_core.specs.Links.{packets_of, packets_by, has_links}
-use Rattle.sim_core.specs.Named.{carried_name, names_on, names_from}
+use Rattle.core_model.specs.Core.{traveller}
+use Rattle.sim_core.specs.code.Links.{packets_of, packets_by, has_links}
+use Rattle.sim_core.specs.code.Named.{carried_name, names_on, names_from}
 use Rattle.sim_core.specs.Kept.{node_by, packets_from}
 use Rattle.sim_core.proofs.AtPlaces.{flat_map_by_place, list_all_at_place}
 use Rattle.std.proofs.Common.{eqb-true}

@@ -7,15 +7,15 @@ use Rattle.word_ops.specs.declared.rules.Rules.{Rules}
 use Rattle.threadlet_code.specs.declared.code.Code.{Code}
 use Rattle.threadlet_state.specs.declared.packet.Packet as sent
 use Rattle.nodelet_core.specs.declared.nodelet.Nodelet.{Nodelet}
-use Rattle.nodelet_core.specs.Nodes.{Node}
-use Rattle.nodelet_core.specs.Start.{start_node}
-use Rattle.nodelet_core.specs.Machine.{Packet}
+use Rattle.core_model.specs.Nodes.{Node}
+use Rattle.core_model.specs.Start.{start_node}
+use Rattle.core_model.specs.Machine.{Packet}
 use Rattle.nodelet_core.specs.Kept.{all_fit, packet_fits, packet_in}
 use Rattle.sim_core.specs.declared.link.Link.{Link}
 use Rattle.sim_core.specs.declared.outgoing.Outgoing.{Outgoing}
-use Rattle.sim_core.specs.Core.{Core, start_core}
-use Rattle.sim_core.specs.Links.{packets_of, packets_by, packets_to, is_clear, are_clear}
-use Rattle.sim_core.specs.Numbered.{AreFirst, AreNumbered, setup_with}
+use Rattle.core_model.specs.Core.{Core, start_core}
+use Rattle.sim_core.specs.code.Links.{packets_of, packets_by, packets_to, is_clear, are_clear}
+use Rattle.sim_core.specs.code.Numbered.{AreFirst, AreNumbered, setup_with}
 use Rattle.sim_core.specs.Kept.{node_by, packets_from, link_fits, outgoing_fits}
 use Rattle.sim_core.proofs.AtPlaces.{list_all_by_place, list_all_at_place, list_all_follows}
 

@@ -11,17 +11,17 @@ use Rattle.merge_law.specs.Core.{leaving, but_from, take_first, advance, core_af
 use Rattle.threadlet_code.specs.declared.code.Code.{Code}
 use Rattle.threadlet_state.specs.declared.packet.Packet as sent
 use Rattle.nodelet_core.specs.declared.nodelet.Nodelet.{Nodelet}
-use Rattle.nodelet_core.specs.Nodes.{Setup, Node}
-use Rattle.nodelet_core.specs.Runs.{run}
-use Rattle.nodelet_core.specs.Machine.{Packet, machine_of}
+use Rattle.core_model.specs.Nodes.{Setup, Node}
+use Rattle.core_model.specs.Runs.{run}
+use Rattle.core_model.specs.Machine.{Packet, machine_of}
 use Rattle.nodelet_core.specs.Kept.{node_of, setup_of, all_fit, packet_in}
 use Rattle.sim_core.specs.declared.machine.Core.{Core as Kept}
-use Rattle.sim_core.specs.Core.{Core, is_legal}
-use Rattle.sim_core.specs.Numbered.{IsNumbered, setup_with}
+use Rattle.core_model.specs.Core.{Core, is_legal}
+use Rattle.sim_core.specs.code.Numbered.{IsNumbered, setup_with}
 use Rattle.sim_core.specs.Kept.{setup_in, node_by, packets_from, outgoing_fits, core_in, core_fits}
-use Rattle.sim_core.proofs.Happening.{run_stamp, take_stamp, taken}
+use Rattle.core_model.proofs.Events.LegalEvent.{run_stamp, take_stamp, taken}
 use Rattle.sim_core.proofs.AtPlaces.{list_all_at_place}
-use Rattle.sim_core.proofs.Sees.{both_true}
+use Rattle.core_model.proofs.Actions.Sights.{both_true}
 
 some_mapped : {A B : Type 0} (f : A → B) (o : Option A) → is_some (option_map f o) ≡ is_some o
 some_mapped f None = refl

@@ -8,7 +8,7 @@ use Rattle.std.proofs.lemmas.Option.{slice_get_read}
 use Rattle.merge_law.specs.Machine.{is_linked}
 use Rattle.sim_core.specs.declared.outgoing.Outgoing.{Outgoing}
 use Rattle.sim_core.specs.declared.machine.Core.{Core as Kept}
-use Rattle.sim_core.specs.Links.{link_to, reaches, packets_to, has_links}
+use Rattle.sim_core.specs.code.Links.{link_to, reaches, packets_to, has_links}
 use Rattle.sim_core.specs.Kept.{packets_from}
 use Rattle.sim_core.proofs.AtPlaces.{list_all_at_place}
 

@@ -17,20 +17,20 @@ use Rattle.merge_law.proofs.Somes.{same_number}
 use Rattle.threadlet_code.specs.declared.code.Code.{Code}
 use Rattle.threadlet_state.specs.declared.packet.Packet as sent
 use Rattle.nodelet_core.specs.declared.nodelet.Nodelet.{Nodelet}
-use Rattle.nodelet_core.specs.Nodes.{Node}
-use Rattle.nodelet_core.specs.Machine.{Packet, machine_of}
+use Rattle.core_model.specs.Nodes.{Node}
+use Rattle.core_model.specs.Machine.{Packet, machine_of}
 use Rattle.nodelet_core.specs.Kept.{node_of, packet_in, all_fit, packet_fits, SameSettings}
 use Rattle.nodelet_core.specs.Kept as nodelet
 use Rattle.sim_core.specs.declared.link.Link.{Link}
 use Rattle.sim_core.specs.declared.outgoing.Outgoing.{Outgoing}
 use Rattle.sim_core.specs.declared.machine.Core.{Core as Kept}
-use Rattle.sim_core.specs.Core.{Core}
-use Rattle.sim_core.specs.Links.{packets_of, packets_to, packets_by}
-use Rattle.sim_core.specs.Numbered.{IsNumbered, AreNumbered}
+use Rattle.core_model.specs.Core.{Core}
+use Rattle.sim_core.specs.code.Links.{packets_of, packets_to, packets_by}
+use Rattle.sim_core.specs.code.Numbered.{IsNumbered, AreNumbered}
 use Rattle.sim_core.specs.Kept.{setup_in, node_by, packets_from, core_in, link_fits, outgoing_fits, core_fits}
 use Rattle.sim_core.specs.Advanced.{SameRun, entries_in, entries_at, HasAdvanced, IsUnchanged}
 use Rattle.sim_core.proofs.AtPlaces.{list_all_by_place, list_all_at_place}
-use Rattle.sim_core.proofs.Sees.{both_true}
+use Rattle.core_model.proofs.Actions.Sights.{both_true}
 use Rattle.sim_core.proofs.Linked.{at_changed, at_other}
 use Rattle.sim_core.proofs.Playing.{same_setup}
 

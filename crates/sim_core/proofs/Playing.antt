@@ -5,13 +5,13 @@ use Rattle.merge_law.specs.Machine.{Machine}
 use Rattle.merge_law.specs.Core.{Core, After, Played, after, told_first, play}
 use Rattle.merge_law.proofs.Somes.{from_map, from_then, some_is}
 use Rattle.threadlet_code.specs.declared.code.Code.{Code}
-use Rattle.nodelet_core.specs.Nodes.{Setup}
+use Rattle.core_model.specs.Nodes.{Setup}
 use Rattle.sim_core.specs.declared.machine.Core.{Core as Kept}
-use Rattle.sim_core.specs.Core.{start_core}
-use Rattle.sim_core.specs.Numbered.{setup_with}
+use Rattle.core_model.specs.Core.{start_core}
+use Rattle.sim_core.specs.code.Numbered.{setup_with}
 use Rattle.sim_core.specs.Kept.{setup_in, core_in}
-use Rattle.nodelet_core.specs.Machine.{machine_of}
-use Rattle.sim_core.specs.Laws.{IsPlayed}
+use Rattle.core_model.specs.Machine.{machine_of}
+use Rattle.core_model.specs.Laws.{IsPlayed}
 use Rattle.sim_core.specs.Advanced.{SameRun, HasAdvanced, IsUnchanged, IsReached}
 
 module _ {V B P : Type 0} (m : Machine V B P) (event : Event) (a : After V P) where

@@ -16,20 +16,20 @@ use Rattle.threadlet_code.specs.declared.code.Code.{Code}
 use Rattle.threadlet_state.specs.declared.packet.Packet as sent
 use Rattle.nodelet_core.specs.declared.nodelet.Nodelet.{Nodelet}
 use Rattle.nodelet_core.specs.declared.next.Next.TheVariants.{Goes}
-use Rattle.nodelet_core.specs.Nodes.{Node}
-use Rattle.nodelet_core.specs.Runs.{run}
-use Rattle.nodelet_core.specs.Machine.{Packet, machine_of}
+use Rattle.core_model.specs.Nodes.{Node}
+use Rattle.core_model.specs.Runs.{run}
+use Rattle.core_model.specs.Machine.{Packet, machine_of}
 use Rattle.nodelet_core.specs.Kept.{node_of, setup_of, packet_in, all_fit, packet_fits, next_by, SameSettings}
 use Rattle.nodelet_core.specs.Kept as nodelet
 use Rattle.nodelet_core.specs.Left.{HasRun}
 use Rattle.sim_core.specs.declared.outgoing.Outgoing.{Outgoing}
 use Rattle.sim_core.specs.declared.machine.Core.{Core as Kept}
-use Rattle.sim_core.specs.Core.{is_legal}
-use Rattle.sim_core.specs.Links.{packets_to, reaches, has_links}
+use Rattle.core_model.specs.Core.{is_legal}
+use Rattle.sim_core.specs.code.Links.{packets_to, reaches, has_links}
 use Rattle.sim_core.specs.Kept.{setup_in, packets_from, core_in, outgoing_fits, core_fits}
 use Rattle.sim_core.specs.Advanced.{SameRun, HasAdvanced, IsUnchanged}
 use Rattle.sim_core.proofs.AtPlaces.{list_all_at_place}
-use Rattle.sim_core.proofs.Sees.{both_true}
+use Rattle.core_model.proofs.Actions.Sights.{both_true}
 use Rattle.sim_core.proofs.Linked.{all_reached}
 use Rattle.sim_core.proofs.Legal.{run_legal, run_legal_there, numbered_there, setup_there, node_there}
 use Rattle.sim_core.proofs.Outcomes.{packets_fit, put_at, sent_on, fits_after, still, advanced}

@@ -13,20 +13,20 @@ use Rattle.threadlet_code.specs.declared.code.Code.{Code}
 use Rattle.threadlet_code.specs.Breaches.{is_sound}
 use Rattle.threadlet_state.specs.declared.packet.Packet as sent
 use Rattle.nodelet_core.specs.declared.nodelet.Nodelet.{Nodelet}
-use Rattle.nodelet_core.specs.Contexts.{body_in}
-use Rattle.nodelet_core.specs.Nodes.{Node}
-use Rattle.nodelet_core.specs.Takes.{can_come}
-use Rattle.nodelet_core.specs.Machine.{Packet, machine_of}
+use Rattle.nodelet_core.specs.Carried.{body_in}
+use Rattle.core_model.specs.Nodes.{Node}
+use Rattle.core_model.specs.Takes.{can_come}
+use Rattle.core_model.specs.Machine.{Packet, machine_of}
 use Rattle.nodelet_core.specs.Kept.{node_of, setup_of, packet_in, all_fit, body_fits, packet_fits}
 use Rattle.nodelet_core.specs.Left.{HasTaken, IsAwaited}
 use Rattle.sim_core.specs.declared.outgoing.Outgoing.{Outgoing}
 use Rattle.sim_core.specs.declared.machine.Core.{Core as Kept}
-use Rattle.sim_core.specs.Core.{Core, is_legal}
-use Rattle.sim_core.specs.Links.{packets_to}
+use Rattle.core_model.specs.Core.{Core, is_legal}
+use Rattle.sim_core.specs.code.Links.{packets_to}
 use Rattle.sim_core.specs.Kept.{setup_in, packets_from, core_in, outgoing_fits, core_fits}
 use Rattle.sim_core.specs.Advanced.{SameRun, HasAdvanced, IsReached}
-use Rattle.sim_core.proofs.Sees.{both_true}
-use Rattle.sim_core.proofs.Coming.{first_can_come}
+use Rattle.core_model.proofs.Actions.Sights.{both_true}
+use Rattle.core_model.proofs.Packets.FirstCanCome.{first_can_come}
 use Rattle.sim_core.proofs.Linked.{Ends, ends_of, at_changed, at_other, first_and_rest, outgoing_there, packets_there}
 use Rattle.sim_core.proofs.Legal.{take_legal, first_to_take_there, numbered_there, setup_there, node_there}
 use Rattle.sim_core.proofs.Outcomes.{differ, packets_fit, fit_by_packets, put_at, sent_on, advanced}

@@ -6,11 +6,11 @@ use Rattle.merge_law.specs.Events.{nodelet_of}
 use Rattle.merge_law.specs.Core as merge
 use Rattle.threadlet_code.specs.declared.code.Code.{Code}
 use Rattle.nodelet_core.specs.declared.nodelet.Nodelet.{Nodelet}
-use Rattle.nodelet_core.specs.Nodes.{Node}
-use Rattle.nodelet_core.specs.Machine.{Packet, machine_of}
+use Rattle.core_model.specs.Nodes.{Node}
+use Rattle.core_model.specs.Machine.{Packet, machine_of}
 use Rattle.sim_core.specs.declared.machine.Core.{Core as Kept}
 use Rattle.sim_core.specs.Kept.{setup_in, core_in}
-use Rattle.sim_core.specs.Laws.{IsPlayed}
+use Rattle.core_model.specs.Laws.{IsPlayed}
 
 -- A core has the nodelets, turns and rules of another.
 pub record SameRun (before after : Kept) : Type 0 where

@@ -4,15 +4,15 @@ use Rattle.std.specs.List.{list_all}
 use Rattle.threadlet_code.specs.declared.code.Code.{Code}
 use Rattle.threadlet_state.specs.declared.packet.Packet as sent
 use Rattle.nodelet_core.specs.declared.nodelet.Nodelet.{Nodelet}
-use Rattle.nodelet_core.specs.Nodes.{Setup, Node}
-use Rattle.nodelet_core.specs.Start.{start_node}
+use Rattle.core_model.specs.Nodes.{Setup, Node}
+use Rattle.core_model.specs.Start.{start_node}
 use Rattle.nodelet_core.specs.Kept.{node_of, packet_in, all_fit, packet_fits}
 use Rattle.sim_core.specs.declared.link.Link.{Link}
 use Rattle.sim_core.specs.declared.outgoing.Outgoing.{Outgoing}
 use Rattle.sim_core.specs.declared.machine.Core.{Core as Kept}
-use Rattle.sim_core.specs.Core.{Core}
-use Rattle.sim_core.specs.Links.{packets_of, packets_to}
-use Rattle.sim_core.specs.Numbered.{setup_with}
+use Rattle.core_model.specs.Core.{Core}
+use Rattle.sim_core.specs.code.Links.{packets_of, packets_to}
+use Rattle.sim_core.specs.code.Numbered.{setup_with}
 
 -- What all nodelets of the run share.
 abbrev pub setup_in : Code → Kept → Setup

@@ -1,11 +1,3 @@
-pub mod Core
-pub mod Agreement
-pub mod Reached
-pub mod Counted
-pub mod Rank
-pub mod Laws
-pub mod Links
-pub mod Numbered
 pub mod Kept
-pub mod Named
 pub mod Advanced
+pub mod code

@@ -12,7 +12,7 @@ impl Core {
     ghost use Rattle.merge_law.specs.Machine.{is_linked};
     ghost use Rattle.merge_law.specs.declared.event.Event.TheVariants as event;
     ghost use Rattle.threadlet_code.specs.declared.code.Code.{Code};
-    ghost use Rattle.sim_core.specs.Core as core;
+    ghost use Rattle.core_model.specs.Core as core;
     ghost use Rattle.sim_core.specs.Kept.{setup_in, core_in, core_fits};
     ghost use Rattle.sim_core.specs.Advanced.{HasAdvanced, IsUnchanged, IsReached};
 

@@ -12,7 +12,7 @@ pub(crate) struct Link {
 impl Link {
     ghost use Rattle.std.specs.Prelude.{◌≡◌, ◌+◌, ◌≤◌, [], ◌∷◌, ◌++◌, drop, slice_get, IsSome, OnOk};
     ghost use Rattle.std.specs.Option.{option_copied};
-    ghost use Rattle.sim_core.specs.Links.{packets_of, spare};
+    ghost use Rattle.sim_core.specs.code.Links.{packets_of, spare};
 
     /// No packet is on it; it grows on `alloc`.
     pub fn new(alloc: Global) -> Link

@@ -1,7 +1,7 @@
 ghost use Rattle.std.specs.Prelude.{◌≡◌, ◌≤◌, true, length};
 ghost use Rattle.std.specs.List.{list_all};
-ghost use Rattle.sim_core.specs.Links.{has_links};
-ghost use Rattle.sim_core.specs.Numbered.{AreNumbered};
+ghost use Rattle.sim_core.specs.code.Links.{has_links};
+ghost use Rattle.sim_core.specs.code.Numbered.{AreNumbered};
 
 use crate::outgoing::Outgoing;
 use nodelet_core::Nodelet;

@@ -3,9 +3,9 @@
 ghost use Rattle.std.specs.Prelude.{◌≡◌, ◌++◌, flat_map, option_to_list, IfOk, OnOk};
 ghost use Rattle.threadlet_code.specs.declared.code.Code.{Code};
 ghost use Rattle.nodelet_core.specs.Kept.{names_at};
-ghost use Rattle.sim_core.specs.Core as core;
+ghost use Rattle.core_model.specs.Core as core;
 ghost use Rattle.sim_core.specs.Kept.{setup_in, core_in};
-ghost use Rattle.sim_core.specs.Named.{carried_name, names_on, names_from};
+ghost use Rattle.sim_core.specs.code.Named.{carried_name, names_on, names_from};
 
 use crate::link::Link;
 use crate::machine::Core;

@@ -1,4 +1,4 @@
-ghost use Rattle.sim_core.specs.Links as links;
+ghost use Rattle.sim_core.specs.code.Links as links;
 
 use crate::link::Link;
 use std::alloc::{AllocError, Global};
@@ -14,7 +14,7 @@ pub(crate) struct Outgoing {
 impl Outgoing {
     ghost use Rattle.std.specs.Prelude.{◌≡◌, ◌≢◌, ◌≤◌, ℕ, ◌∷◌, true, length, drop, slice_get, IsSome, IfOk};
     ghost use Rattle.std.specs.Option.{option_copied};
-    ghost use Rattle.sim_core.specs.Links.{has_links, are_clear, reaches, packets_to, spare_to};
+    ghost use Rattle.sim_core.specs.code.Links.{has_links, are_clear, reaches, packets_to, spare_to};
 
     /// Links to `n` nodelets, with no packet on them; they grow on `alloc`.
     pub fn new(alloc: Global, n: u32) -> Result<Outgoing, AllocError>

@@ -2,9 +2,9 @@
 
 ghost use Rattle.std.specs.Prelude.{◌≡◌, ◌≤◌, true, length, IfOk};
 ghost use Rattle.std.specs.List.{list_all};
-ghost use Rattle.sim_core.specs.Core.{start_core};
-ghost use Rattle.sim_core.specs.Links.{has_links, are_clear};
-ghost use Rattle.sim_core.specs.Numbered.{AreFirst};
+ghost use Rattle.core_model.specs.Core.{start_core};
+ghost use Rattle.sim_core.specs.code.Links.{has_links, are_clear};
+ghost use Rattle.sim_core.specs.code.Numbered.{AreFirst};
 ghost use Rattle.sim_core.specs.Kept.{setup_in, core_in, core_fits};
 ghost use Rattle.sim_core.specs.Advanced.{IsReached};
 

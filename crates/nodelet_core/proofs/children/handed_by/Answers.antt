@@ -11,7 +11,7 @@ use Rattle.threadlet_code.proofs.Kept.{keeps_rules}
 use Rattle.threadlet_state.specs.Activations.{activation, state_of}
 use Rattle.threadlet_state.specs.Fit.{frames_fit}
 use Rattle.threadlet_state.proofs.Here.{deepest, function_there, place_there, step_is, laid, under, enough, depth_is}
-use Rattle.nodelet_core.specs.Runs.{action_in}
+use Rattle.core_model.specs.Runs.{action_in}
 use Rattle.nodelet_core.proofs.Bearing.{hint_more, is_spawn, spawn_hands, no_spawn}
 use Rattle.nodelet_core.proofs.children.handed_by.Goals as goal
 

@@ -1,6 +1,6 @@
 use Rattle.std.proofs.Common.{◌≡◌, ◌≤◌, ℕ, suc, length, slice_index}
 use Rattle.word_ops.specs.Report.{below}
-use Rattle.nodelet_core.specs.Counted.{with_all}
+use Rattle.nodelet_core.specs.code.Counted.{with_all}
 use Rattle.nodelet_core.proofs.counting.count_all.Given as goal
 
 abbrev pub invariant-loop-k : goal.invariant-loop-k

@@ -13,7 +13,7 @@ use Rattle.threadlet_code.proofs.Kept.{keeps_rules}
 use Rattle.threadlet_state.specs.Activations.{activation, state_of}
 use Rattle.threadlet_state.proofs.Here.{deepest, fits, function_there, place_there, callee_there, next_is, step_is, call_is, args, left, enough, laid, under, depth_is, not_too_deep}
 use Rattle.nodelet_core.specs.declared.due.Due.TheVariants as due
-use Rattle.nodelet_core.specs.Dues.{due_of}
+use Rattle.nodelet_core.specs.code.Dues.{due_of}
 use Rattle.nodelet_core.proofs.Asking.{due_in, plain_asks, operator_asks, print_asks, return_asks, return_goes, no_format, call_traps, call_goes}
 use Rattle.nodelet_core.proofs.due.due_of_frames.Goals as goal
 

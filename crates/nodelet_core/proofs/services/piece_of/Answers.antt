@@ -13,7 +13,7 @@ use Rattle.threadlet_state.specs.Activations.{activation}
 use Rattle.threadlet_state.proofs.Here.{deepest, function_there, place_there, step_is, enough, laid, under}
 use Rattle.nodelet_core.proofs.Asking.{due_in, plain_asks}
 use Rattle.nodelet_core.proofs.Printing.{prints, others_quiet, never_prints}
-use Rattle.nodelet_core.specs.Runs.{action_in}
+use Rattle.core_model.specs.Runs.{action_in}
 use Rattle.nodelet_core.proofs.services.piece_of.Goals as goal
 
 pub at-f-requires : goal.at-f-requires

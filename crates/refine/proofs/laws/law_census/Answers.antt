@@ -1,11 +1,11 @@
 use Rattle.refine.proofs.laws.law_census.Goals as goal
 use Rattle.std.proofs.Common.{sym, ◌∙◌}
 use Rattle.merge_law.specs.Merge.{steps_of}
-use Rattle.sim_core.specs.Core.{setting_of}
-use Rattle.sim_core.specs.Laws.{IsRunOfEvents}
-use Rattle.sim_core.proofs.EventsAreRun.{events_are_run}
-use Rattle.sim_core.proofs.Census.{census_is_live}
-use Rattle.sim_core.proofs.Once.{census_names_once}
+use Rattle.core_model.specs.Core.{setting_of}
+use Rattle.core_model.specs.Laws.{IsRunOfEvents}
+use Rattle.core_model.proofs.Events.EventsAreRun.{events_are_run}
+use Rattle.core_model.proofs.Census.LiveStrands.{census_is_live}
+use Rattle.core_model.proofs.Census.NamesOnce.{census_names_once}
 use Rattle.refine.proofs.Runs.{runs-same}
 use Rattle.refine.proofs.Events.{census_of_program}
 

@@ -1,5 +1,5 @@
 use Rattle.refine.proofs.laws.law_not_stuck.Goals as goal
-use Rattle.sim_core.proofs.NotStuck.{never_stuck}
+use Rattle.core_model.proofs.NotStuck.NeverStuck.{never_stuck}
 use Rattle.refine.proofs.Events.{ended_of_program}
 
 pub returns : goal.returns

@@ -1,7 +1,7 @@
 use Rattle.refine.proofs.laws.law_run.Goals as goal
-use Rattle.sim_core.proofs.EventsAreRun.{events_are_run}
-use Rattle.sim_core.proofs.EventsTell.{first_traps_are_told as traps_law}
-use Rattle.sim_core.proofs.TrafficCounted.{counts_are_traffic as counts_law}
+use Rattle.core_model.proofs.Events.EventsAreRun.{events_are_run}
+use Rattle.core_model.proofs.FirstTrap.FirstTraps.{first_traps_are_told as traps_law}
+use Rattle.core_model.proofs.Traffic.CountsAreTraffic.{counts_are_traffic as counts_law}
 use Rattle.refine.proofs.Events.{run_of_program, traps_of_program, traffic_of_program}
 
 pub returns : goal.returns

@@ -1,6 +1,6 @@
 use Rattle.refine.proofs.laws.law_runs_end.Goals as goal
-use Rattle.sim_core.proofs.NotStuck.{never_stuck}
-use Rattle.sim_core.proofs.Ends.{runs_end}
+use Rattle.core_model.proofs.NotStuck.NeverStuck.{never_stuck}
+use Rattle.core_model.proofs.NotStuck.RunsEnd.{runs_end}
 use Rattle.refine.proofs.Events.{end_of_program}
 
 pub returns : goal.returns

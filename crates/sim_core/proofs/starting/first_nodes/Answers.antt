@@ -1,7 +1,7 @@
 use Rattle.std.proofs.Common.{◌≡◌, ◌+◌, ◌∷◌, [], length, Some, ap, sym, ◌∙◌, subst, length-append}
 use Rattle.std.specs.Prelude.{slice_get}
-use Rattle.nodelet_core.specs.Start.{start_node}
-use Rattle.sim_core.specs.Numbered.{IsFirst, setup_with}
+use Rattle.core_model.specs.Start.{start_node}
+use Rattle.sim_core.specs.code.Numbered.{IsFirst, setup_with}
 use Rattle.sim_core.proofs.AtPlaces.{at_one_more}
 use Rattle.sim_core.proofs.starting.first_nodes.Goals as goal
 

@@ -1,5 +1,5 @@
 use Rattle.std.proofs.Common.{◌≡◌, length}
-use Rattle.sim_core.specs.Numbered.{AreFirst}
+use Rattle.sim_core.specs.code.Numbered.{AreFirst}
 use Rattle.sim_core.proofs.starting.first_nodes.Given as goal
 
 abbrev pub invariant-loop-k : goal.invariant-loop-k

@@ -1,8 +1,8 @@
 use Rattle.std.proofs.Common.{◌≡◌, [], refl, ap, ◌∙◌, sym, subst, arith}
 use Rattle.nodelet_core.specs.declared.nodelet.Nodelet.{Nodelet}
-use Rattle.nodelet_core.specs.Contexts.{context_of}
-use Rattle.nodelet_core.specs.Machine.{stamped_node}
-use Rattle.nodelet_core.specs.Became.{Did}
+use Rattle.core_model.specs.Contexts.{context_of}
+use Rattle.core_model.specs.Machine.{stamped_node}
+use Rattle.nodelet_core.specs.code.Became.{Did}
 use Rattle.nodelet_core.proofs.Taking.{did_stamp, became_stamp, late_stamp, acknowledged_late, acknowledged_done}
 use Rattle.nodelet_core.proofs.nodelet.Nodelet.acknowledge.Goals as goal
 use Rattle.nodelet_core.proofs.nodelet.Nodelet.acknowledge.Goals.{in-Some, in_default}

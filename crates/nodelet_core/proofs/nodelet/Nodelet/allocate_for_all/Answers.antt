@@ -5,12 +5,12 @@ use Rattle.threadlet_code.specs.declared.code.Code.{Code}
 use Rattle.threadlet_state.specs.Answered.{IsAnswered}
 use Rattle.nodelet_core.specs.declared.nodelet.Nodelet.{Nodelet}
 use Rattle.nodelet_core.specs.declared.due.Due.TheVariants as due
-use Rattle.nodelet_core.specs.Nodes.{with_issued}
-use Rattle.nodelet_core.specs.Dues.{asked_request}
-use Rattle.nodelet_core.specs.Standing.{is_among}
+use Rattle.core_model.specs.Nodes.{with_issued}
+use Rattle.nodelet_core.specs.code.Dues.{asked_request}
+use Rattle.nodelet_core.specs.code.Standing.{is_among}
 use Rattle.nodelet_core.specs.Kept.{node_of, setup_of, SameSettings}
-use Rattle.nodelet_core.specs.Became.{Did}
-use Rattle.nodelet_core.specs.Doing.{SentMore, address_for, with_taken, kept_for, grant_sends}
+use Rattle.nodelet_core.specs.code.Became.{Did}
+use Rattle.nodelet_core.specs.code.Doing.{SentMore, address_for, with_taken, kept_for, grant_sends}
 use Rattle.nodelet_core.proofs.Becoming.{settings_then}
 use Rattle.nodelet_core.proofs.Resuming.{stands_before}
 use Rattle.nodelet_core.proofs.Stamps.{sent_from, sent_behind, did_before_last}

@@ -3,11 +3,11 @@ use Rattle.std.proofs.lemmas.Int.{to_z-of_z}
 use Rattle.world_model.specs.Allocation.{taken_from}
 use Rattle.threadlet_state.specs.Answered.{IsAnswered}
 use Rattle.nodelet_core.specs.declared.due.Due.TheVariants as due
-use Rattle.nodelet_core.specs.Effects.{nothing}
-use Rattle.nodelet_core.specs.Dues.{asked_request}
+use Rattle.core_model.specs.Effects.{nothing}
+use Rattle.nodelet_core.specs.code.Dues.{asked_request}
 use Rattle.nodelet_core.specs.Kept.{node_of, setup_of}
-use Rattle.nodelet_core.specs.Became.{Did}
-use Rattle.nodelet_core.specs.Doing.{address_for, with_taken}
+use Rattle.nodelet_core.specs.code.Became.{Did}
+use Rattle.nodelet_core.specs.code.Doing.{address_for, with_taken}
 use Rattle.nodelet_core.proofs.Resuming.{stands_before}
 use Rattle.nodelet_core.proofs.Stamps.{nothing_sent, did_before_last}
 use Rattle.nodelet_core.proofs.Doing.{Leaves, had_whole, nothing_counted}

@@ -2,9 +2,9 @@ use Rattle.std.proofs.Common.{◌≡◌, pos, sym, ap, ◌∙◌, subst, to_z, o
 use Rattle.std.proofs.lemmas.Int.{to_z-of_z}
 use Rattle.std.specs.Prelude.{if◌then◌else◌}
 use Rattle.world_model.specs.World.{Grant}
-use Rattle.nodelet_core.specs.Contexts.{Issued}
-use Rattle.nodelet_core.specs.Effects.{nothing, to_all}
-use Rattle.nodelet_core.specs.Doing.{SentMore, grant_sends}
+use Rattle.core_model.specs.Contexts.{Issued}
+use Rattle.core_model.specs.Effects.{nothing, to_all}
+use Rattle.nodelet_core.specs.code.Doing.{SentMore, grant_sends}
 use Rattle.nodelet_core.proofs.Stamps.{nothing_sent}
 use Rattle.nodelet_core.proofs.Allotting.{not_zero}
 use Rattle.nodelet_core.proofs.nodelet.Nodelet.announce.Goals as goal

@@ -1,6 +1,6 @@
 use Rattle.std.proofs.Common.{Some, sym, ap, ◌∙◌}
 use Rattle.nodelet_core.specs.declared.due.Due.{Due}
-use Rattle.nodelet_core.specs.Doing.{child_named}
+use Rattle.nodelet_core.specs.code.Doing.{child_named}
 use Rattle.nodelet_core.specs.Kept.{node_of}
 use Rattle.nodelet_core.proofs.nodelet.Nodelet.child_name.Goals as goal
 

@@ -9,11 +9,11 @@ use Rattle.threadlet_state.specs.declared.context.Context as carried
 use Rattle.threadlet_state.specs.Activations.{state_of}
 use Rattle.threadlet_state.specs.Fit.{frames_fit}
 use Rattle.threadlet_state.proofs.FrameLaws.{frames_as_state}
-use Rattle.nodelet_core.specs.Contexts.{context_in}
-use Rattle.nodelet_core.specs.Effects as effects
+use Rattle.nodelet_core.specs.Carried.{context_in}
+use Rattle.core_model.specs.Effects as effects
 use Rattle.nodelet_core.specs.Kept.{node_of, setup_of}
-use Rattle.nodelet_core.specs.Dues.{due_of}
-use Rattle.nodelet_core.specs.Doing.{IsChild}
+use Rattle.nodelet_core.specs.code.Dues.{due_of}
+use Rattle.nodelet_core.specs.code.Doing.{IsChild}
 use Rattle.nodelet_core.proofs.Seeing.{some_frames, few_frames, owed_is}
 use Rattle.nodelet_core.proofs.Bearing.{takes_args, if_ok, child_is}
 use Rattle.nodelet_core.proofs.nodelet.Nodelet.child_of.Goals as goal

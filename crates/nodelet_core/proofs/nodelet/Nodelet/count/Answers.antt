@@ -1,5 +1,5 @@
 use Rattle.std.proofs.Common.{refl}
-use Rattle.nodelet_core.specs.Machine.{stamped_node}
+use Rattle.core_model.specs.Machine.{stamped_node}
 use Rattle.nodelet_core.specs.Kept.{node_of, first_number}
 use Rattle.nodelet_core.proofs.Tallying.{counts_event}
 use Rattle.nodelet_core.proofs.nodelet.Nodelet.count.Goals as goal

@@ -3,7 +3,7 @@ use Rattle.std.specs.Result.{is_err}
 use Rattle.std.specs.Prelude.{max, Option}
 use Rattle.word_ops.specs.declared.step.Step.{Step}
 use Rattle.word_ops.specs.declared.step.NodeEvent.TheVariants.{Take}
-use Rattle.nodelet_core.specs.Became.{HasEntered}
+use Rattle.nodelet_core.specs.code.Became.{HasEntered}
 use Rattle.nodelet_core.proofs.Arriving.{where_ok}
 use Rattle.nodelet_core.proofs.Delivered.{has_taken}
 use Rattle.nodelet_core.proofs.nodelet.Nodelet.deliver.Goals as goal

@@ -10,12 +10,12 @@ use Rattle.nodelet_core.specs.declared.due.Due.{Due}
 use Rattle.nodelet_core.specs.declared.due.Due.TheVariants as due
 use Rattle.nodelet_core.specs.declared.due.Hint.{Hint}
 use Rattle.nodelet_core.specs.declared.due.Request.{Request}
-use Rattle.nodelet_core.specs.Contexts.{context_in}
-use Rattle.nodelet_core.specs.Effects.{ended}
-use Rattle.nodelet_core.specs.Runs.{gone}
+use Rattle.nodelet_core.specs.Carried.{context_in}
+use Rattle.core_model.specs.Effects.{ended}
+use Rattle.core_model.specs.Runs.{gone}
 use Rattle.nodelet_core.specs.Kept.{node_of, IsUnchanged}
 use Rattle.nodelet_core.specs.Left.{Sent}
-use Rattle.nodelet_core.specs.Doing.{Left, IsDueHere, HadEffect, is_quiet, is_post}
+use Rattle.nodelet_core.specs.code.Doing.{Left, IsDueHere, HadEffect, is_quiet, is_post}
 use Rattle.nodelet_core.proofs.Resuming.{end_free}
 use Rattle.nodelet_core.proofs.Doing.{had_ended}
 use Rattle.nodelet_core.proofs.nodelet.Nodelet.effect.Goals as goal

@@ -6,13 +6,14 @@ use Rattle.std.proofs.lemmas.Bool.Decides.{eqb_tells}
 use Rattle.word_ops.specs.declared.ticket.Ticket.{Ticket}
 use Rattle.threadlet_code.specs.declared.code.Code.{Code}
 use Rattle.nodelet_core.specs.declared.counting.Counted.{Counted}
-use Rattle.nodelet_core.specs.Contexts.{Context, context_in, Returned}
-use Rattle.nodelet_core.specs.Nodes.{Node, with_result, ended_for}
-use Rattle.nodelet_core.specs.Effects.{Effect, quiet, sending, only_to, ended}
-use Rattle.nodelet_core.specs.Runs.{gone}
+use Rattle.core_model.specs.Contexts.{Context, Returned}
+use Rattle.nodelet_core.specs.Carried.{context_in}
+use Rattle.core_model.specs.Nodes.{Node, with_result, ended_for}
+use Rattle.core_model.specs.Effects.{Effect, quiet, sending, only_to, ended}
+use Rattle.core_model.specs.Runs.{gone}
 use Rattle.nodelet_core.specs.Kept.{node_of}
-use Rattle.nodelet_core.specs.Became.{Did}
-use Rattle.nodelet_core.specs.Doing.{SentMore, Left, goes_from, with_value}
+use Rattle.nodelet_core.specs.code.Became.{Did}
+use Rattle.nodelet_core.specs.code.Doing.{SentMore, Left, goes_from, with_value}
 use Rattle.nodelet_core.proofs.Doing.{gone_left, did_nothing, nothing_counted}
 use Rattle.nodelet_core.proofs.Stamps.{nothing_sent, sent_from, sent_at}
 use Rattle.nodelet_core.proofs.nodelet.Nodelet.end.Goals as goal

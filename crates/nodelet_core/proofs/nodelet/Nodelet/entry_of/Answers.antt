@@ -4,7 +4,7 @@ use Rattle.word_ops.specs.declared.step.Step.{Step}
 use Rattle.word_ops.specs.declared.step.Step.TheVariants.{Act}
 use Rattle.threadlet_state.specs.Activations.{state_of}
 use Rattle.nodelet_core.specs.declared.sight.Way as coded
-use Rattle.nodelet_core.specs.Contexts.{context_in}
+use Rattle.nodelet_core.specs.Carried.{context_in}
 use Rattle.nodelet_core.specs.Kept.{node_of, setup_of}
 use Rattle.nodelet_core.proofs.Entries.{entry_with, told_by, entry_is}
 use Rattle.nodelet_core.proofs.nodelet.Nodelet.entry_of.Goals as goal

@@ -3,9 +3,9 @@ use Rattle.std.proofs.lemmas.Int.{to_z-of_z}
 use Rattle.mem_atomics.specs.NewWord.{fetched}
 use Rattle.nodelet_mem.specs.Words.{word_of}
 use Rattle.nodelet_core.specs.declared.due.Due.TheVariants as due
-use Rattle.nodelet_core.specs.Nodes.{with_word}
-use Rattle.nodelet_core.specs.Effects.{nothing}
-use Rattle.nodelet_core.specs.Became.{Did}
+use Rattle.core_model.specs.Nodes.{with_word}
+use Rattle.core_model.specs.Effects.{nothing}
+use Rattle.nodelet_core.specs.code.Became.{Did}
 use Rattle.nodelet_core.proofs.Resuming.{stands_before}
 use Rattle.nodelet_core.proofs.Stamps.{nothing_sent, did_before_last}
 use Rattle.nodelet_core.proofs.Doing.{had_whole, nothing_counted}

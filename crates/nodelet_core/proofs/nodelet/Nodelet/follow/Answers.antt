@@ -11,12 +11,12 @@ use Rattle.threadlet_state.specs.Activations.{state_of}
 use Rattle.nodelet_core.specs.declared.due.Due.{Due}
 use Rattle.nodelet_core.specs.declared.sight.Way as coded
 use Rattle.nodelet_core.specs.declared.sight.Way.TheVariants as way
-use Rattle.nodelet_core.specs.Dues.{due_of, asked, way_seen}
-use Rattle.nodelet_core.specs.Contexts.{context_in}
-use Rattle.nodelet_core.specs.Nodes.{moved_from}
-use Rattle.nodelet_core.specs.Runs.{Outcome, action_in, by_way, done_here, outside, trapped, sent_whole, sight_at, is_free}
+use Rattle.nodelet_core.specs.code.Dues.{due_of, asked, way_seen}
+use Rattle.nodelet_core.specs.Carried.{context_in}
+use Rattle.core_model.specs.Nodes.{moved_from}
+use Rattle.core_model.specs.Runs.{Outcome, action_in, by_way, done_here, outside, trapped, sent_whole, sight_at, is_free}
 use Rattle.nodelet_core.specs.Kept.{node_of, setup_of}
-use Rattle.nodelet_core.specs.Doing.{Left, HadEffect}
+use Rattle.nodelet_core.specs.code.Doing.{Left, HadEffect}
 use Rattle.nodelet_core.proofs.Found.{both, home_among}
 use Rattle.nodelet_core.proofs.Doing.{trap_left}
 use Rattle.nodelet_core.proofs.Followed.{on_ok, place_among, bad_is, is_outside, is_inside, done_ready, sent_linked, left_as, stay_left}

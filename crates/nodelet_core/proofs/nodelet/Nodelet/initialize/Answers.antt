@@ -9,13 +9,13 @@ use Rattle.nodelet_core.specs.declared.nodelet.Nodelet.{Nodelet}
 use Rattle.nodelet_core.specs.declared.due.Due.TheVariants as due
 use Rattle.nodelet_core.specs.declared.counting.Counted.{Counted}
 use Rattle.nodelet_core.specs.declared.counting.Posts.TheVariants as posts
-use Rattle.nodelet_core.specs.Contexts.{Issued}
-use Rattle.nodelet_core.specs.Nodes.{Node, with_word, with_issued}
-use Rattle.nodelet_core.specs.Effects.{to_all}
-use Rattle.nodelet_core.specs.Standing.{is_among}
+use Rattle.core_model.specs.Contexts.{Issued}
+use Rattle.core_model.specs.Nodes.{Node, with_word, with_issued}
+use Rattle.core_model.specs.Effects.{to_all}
+use Rattle.nodelet_core.specs.code.Standing.{is_among}
 use Rattle.nodelet_core.specs.Kept.{node_of, IsUnchanged, SameSettings}
-use Rattle.nodelet_core.specs.Became.{Did}
-use Rattle.nodelet_core.specs.Doing.{SentMore, with_withdrawn}
+use Rattle.nodelet_core.specs.code.Became.{Did}
+use Rattle.nodelet_core.specs.code.Doing.{SentMore, with_withdrawn}
 use Rattle.nodelet_core.proofs.Becoming.{settings_then, did_then, unchanged_did}
 use Rattle.nodelet_core.proofs.Resuming.{stands_before}
 use Rattle.nodelet_core.proofs.Stamps.{sent_from, sent_behind, did_before_last}

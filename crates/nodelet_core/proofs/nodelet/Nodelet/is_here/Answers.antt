@@ -1,7 +1,8 @@
 use Rattle.std.proofs.Common.{sym, ap, ◌∙◌, map}
 use Rattle.std.specs.Prelude.{is_some}
 use Rattle.word_ops.specs.declared.name.Name.{Name}
-use Rattle.nodelet_core.specs.Contexts.{context_in, context_of}
+use Rattle.core_model.specs.Contexts.{context_of}
+use Rattle.nodelet_core.specs.Carried.{context_in}
 use Rattle.nodelet_core.proofs.Found.{none_named, some_named}
 use Rattle.nodelet_core.proofs.nodelet.Nodelet.is_here.Goals as goal
 

@@ -4,8 +4,8 @@ use Rattle.std.proofs.lemmas.Int.{to_z-of_z}
 use Rattle.word_ops.specs.declared.place.Pos.{Pos}
 use Rattle.world_model.specs.Action.{pos_of}
 use Rattle.world_model.specs.Step.{used_at_once}
-use Rattle.nodelet_core.specs.Dues.{asked}
-use Rattle.nodelet_core.specs.Nodes as nodes
+use Rattle.nodelet_core.specs.code.Dues.{asked}
+use Rattle.core_model.specs.Nodes as nodes
 use Rattle.nodelet_core.specs.Kept.{node_of, setup_of}
 use Rattle.nodelet_core.proofs.nodelet.Nodelet.is_outside.Goals as goal
 

@@ -5,12 +5,13 @@ use Rattle.world_model.specs.World.{Operation}
 use Rattle.nodelet_core.specs.declared.due.Due.TheVariants as due
 use Rattle.nodelet_core.specs.declared.counting.Counted.{Counted}
 use Rattle.nodelet_core.specs.declared.counting.Posts.TheVariants as posts
-use Rattle.nodelet_core.specs.Contexts.{Issued, body_in}
-use Rattle.nodelet_core.specs.Nodes.{with_issued}
-use Rattle.nodelet_core.specs.Effects.{only_to}
+use Rattle.core_model.specs.Contexts.{Issued}
+use Rattle.nodelet_core.specs.Carried.{body_in}
+use Rattle.core_model.specs.Nodes.{with_issued}
+use Rattle.core_model.specs.Effects.{only_to}
 use Rattle.nodelet_core.specs.Kept.{node_of}
-use Rattle.nodelet_core.specs.Became.{Did}
-use Rattle.nodelet_core.specs.Doing.{SentMore}
+use Rattle.nodelet_core.specs.code.Became.{Did}
+use Rattle.nodelet_core.specs.code.Doing.{SentMore}
 use Rattle.nodelet_core.proofs.Becoming.{settings_then}
 use Rattle.nodelet_core.proofs.Resuming.{stands_before}
 use Rattle.nodelet_core.proofs.Stamps.{sent_from, sent_behind, did_before_last}

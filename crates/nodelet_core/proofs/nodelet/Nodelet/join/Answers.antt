@@ -8,11 +8,11 @@ use Rattle.threadlet_code.specs.Running.{owed}
 use Rattle.threadlet_state.specs.Activations.{state_of}
 use Rattle.spawn_tree.specs.Joining.{result_of}
 use Rattle.nodelet_core.specs.declared.due.Due.TheVariants as due
-use Rattle.nodelet_core.specs.Contexts.{context_in}
-use Rattle.nodelet_core.specs.Nodes.{Node, without_results}
-use Rattle.nodelet_core.specs.Effects.{effect, nothing}
+use Rattle.nodelet_core.specs.Carried.{context_in}
+use Rattle.core_model.specs.Nodes.{Node, without_results}
+use Rattle.core_model.specs.Effects.{effect, nothing}
 use Rattle.nodelet_core.specs.Kept.{node_of, setup_of}
-use Rattle.nodelet_core.specs.Runs.{DoneHere, way_of, sight_at, is_free}
+use Rattle.core_model.specs.Runs.{DoneHere, way_of, sight_at, is_free}
 use Rattle.nodelet_core.proofs.Syncing.{sync_depth}
 use Rattle.nodelet_core.proofs.Seeing.{some_frames, few_frames, owed_is, state_size}
 use Rattle.nodelet_core.proofs.Resuming.{stands_before, comes_asked, is_answered}

@@ -3,7 +3,7 @@ use Rattle.std.specs.Result.{OnOk}
 use Rattle.std.proofs.lemmas.Int.{to_z-of_z}
 use Rattle.nodelet_core.specs.declared.due.Due.TheVariants as due
 use Rattle.nodelet_core.specs.Left.{Sent}
-use Rattle.nodelet_core.specs.Doing.{HadEffect}
+use Rattle.nodelet_core.specs.code.Doing.{HadEffect}
 use Rattle.nodelet_core.proofs.nodelet.Nodelet.load.Goals as goal
 
 pub returns-clause-ok : goal.returns-clause-ok

@@ -8,10 +8,10 @@ use Rattle.data_layout.specs.CursorTable.{cursor_of}
 use Rattle.world_model.specs.World.{lies_in}
 use Rattle.world_model.specs.Run.{first_grants}
 use Rattle.threadlet_code.specs.declared.code.Code.{Code}
-use Rattle.nodelet_core.specs.Contexts.{context_in}
-use Rattle.nodelet_core.specs.Nodes.{Setup}
+use Rattle.nodelet_core.specs.Carried.{context_in}
+use Rattle.core_model.specs.Nodes.{Setup}
 use Rattle.nodelet_core.specs.Kept.{first_number}
-use Rattle.nodelet_core.specs.Tallied.{tallies_of}
+use Rattle.nodelet_core.specs.code.Tallied.{tallies_of}
 use Rattle.nodelet_core.proofs.Starts.{start_is, blank_is}
 use Rattle.nodelet_core.proofs.nodelet.Nodelet.new.Goals as goal
 

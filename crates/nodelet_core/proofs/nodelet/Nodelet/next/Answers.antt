@@ -2,10 +2,11 @@ use Rattle.std.proofs.Common.{Option, sym, ap, ◌∙◌, map}
 use Rattle.std.specs.Prelude.{option_and_then}
 use Rattle.word_ops.specs.declared.name.Name.{Name}
 use Rattle.threadlet_code.specs.Running.{halt}
-use Rattle.nodelet_core.specs.Contexts.{Context, context_in, context_of}
+use Rattle.core_model.specs.Contexts.{Context, context_of}
+use Rattle.nodelet_core.specs.Carried.{context_in}
 use Rattle.nodelet_core.specs.Kept.{node_of, setup_of, next_by, context_fits}
-use Rattle.nodelet_core.specs.Runs.{taken_up}
-use Rattle.nodelet_core.specs.Standing.{ascends, is_among}
+use Rattle.core_model.specs.Runs.{taken_up}
+use Rattle.nodelet_core.specs.code.Standing.{ascends, is_among}
 use Rattle.nodelet_core.proofs.Found.{none_named, found_is, holds_at, home_among}
 use Rattle.nodelet_core.proofs.nodelet.Nodelet.next.Goals as goal
 

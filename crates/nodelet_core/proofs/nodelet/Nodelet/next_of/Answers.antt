@@ -3,11 +3,12 @@ use Rattle.threadlet_code.specs.Machine.{State, step}
 use Rattle.threadlet_code.specs.Fitting.{Fits}
 use Rattle.threadlet_state.specs.Activations.{state_of}
 use Rattle.threadlet_state.proofs.FrameLaws.{frames_as_state}
-use Rattle.nodelet_core.specs.Contexts.{Context, context_in}
-use Rattle.nodelet_core.specs.Nodes.{Setup}
-use Rattle.nodelet_core.specs.Dues.{way_seen}
+use Rattle.core_model.specs.Contexts.{Context}
+use Rattle.nodelet_core.specs.Carried.{context_in}
+use Rattle.core_model.specs.Nodes.{Setup}
+use Rattle.nodelet_core.specs.code.Dues.{way_seen}
 use Rattle.nodelet_core.specs.Kept.{node_of, setup_of, next_by}
-use Rattle.nodelet_core.specs.Runs.{by_way}
+use Rattle.core_model.specs.Runs.{by_way}
 use Rattle.nodelet_core.proofs.Nexting.{waits_alone, goes_else, action_taken, silent_goes, not_waits, due_told, none_told}
 use Rattle.nodelet_core.proofs.nodelet.Nodelet.next_of.Goals as goal
 

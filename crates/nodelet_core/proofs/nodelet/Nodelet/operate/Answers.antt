@@ -2,11 +2,11 @@ use Rattle.std.proofs.Common.{◌≡◌, true, refl, subst, arith, rules, to_z, 
 use Rattle.mem_atomics.specs.NewWord.{applied}
 use Rattle.nodelet_mem.specs.Words.{word_of}
 use Rattle.world_model.specs.World as world
-use Rattle.nodelet_core.specs.Nodes.{is_granted, with_word, applied_here}
-use Rattle.nodelet_core.specs.Takes.{with_item}
-use Rattle.nodelet_core.specs.Machine.{stamped_node}
+use Rattle.core_model.specs.Nodes.{is_granted, with_word, applied_here}
+use Rattle.core_model.specs.Takes.{with_item}
+use Rattle.core_model.specs.Machine.{stamped_node}
 use Rattle.nodelet_core.specs.Kept.{node_of, setup_of}
-use Rattle.nodelet_core.specs.Became.{Did}
+use Rattle.nodelet_core.specs.code.Became.{Did}
 use Rattle.nodelet_core.proofs.Becoming.{did_then}
 use Rattle.nodelet_core.proofs.Taking.{did_stamp, did_as, operated_is}
 use Rattle.nodelet_core.proofs.nodelet.Nodelet.operate.Goals as goal

@@ -5,11 +5,12 @@ use Rattle.threadlet_state.specs.Activations.{state_of}
 use Rattle.nodelet_core.specs.declared.nodelet.Nodelet.{Nodelet}
 use Rattle.nodelet_core.specs.declared.due.Due.{Due}
 use Rattle.nodelet_core.specs.declared.due.Due.TheVariants as due
-use Rattle.nodelet_core.specs.Contexts.{Context, context_in}
-use Rattle.nodelet_core.specs.Effects.{nothing, effect}
-use Rattle.nodelet_core.specs.Dues.{asked}
+use Rattle.core_model.specs.Contexts.{Context}
+use Rattle.nodelet_core.specs.Carried.{context_in}
+use Rattle.core_model.specs.Effects.{nothing, effect}
+use Rattle.nodelet_core.specs.code.Dues.{asked}
 use Rattle.nodelet_core.specs.Kept.{node_of, setup_of}
-use Rattle.nodelet_core.specs.Doing.{PassesWith}
+use Rattle.nodelet_core.specs.code.Doing.{PassesWith}
 use Rattle.nodelet_core.proofs.Resuming.{is_answered, is_whole, stands_before}
 use Rattle.nodelet_core.proofs.Stamps.{nothing_sent}
 use Rattle.nodelet_core.proofs.Doing.{Leaves, had_whole, nothing_counted, did_nothing}

@@ -5,7 +5,7 @@ use Rattle.data_layout.specs.Address.{is_valid, owner_of}
 use Rattle.nodelet_core.specs.declared.due.Due.{Due}
 use Rattle.nodelet_core.specs.declared.due.Due.TheVariants as due
 use Rattle.nodelet_core.specs.Left.{Sent}
-use Rattle.nodelet_core.specs.Doing.{IsDueHere, HadEffect}
+use Rattle.nodelet_core.specs.code.Doing.{IsDueHere, HadEffect}
 use Rattle.nodelet_core.proofs.Posting.{issue_valid}
 use Rattle.nodelet_core.proofs.nodelet.Nodelet.post.Goals as goal
 

@@ -1,7 +1,7 @@
 use Rattle.std.proofs.Common.{◌≤◌, ◌-◌, sym, ◌∙◌, subst}
 use Rattle.nodelet_mem.specs.Words.{grant_room}
-use Rattle.nodelet_core.specs.Nodes.{with_issued}
-use Rattle.nodelet_core.specs.Became.{Did}
+use Rattle.core_model.specs.Nodes.{with_issued}
+use Rattle.nodelet_core.specs.code.Became.{Did}
 use Rattle.nodelet_core.proofs.Becoming.{did_then, unchanged_then, unchanged_did}
 use Rattle.nodelet_core.proofs.Ran.{any_err}
 use Rattle.nodelet_core.proofs.Posting.{linked_before, linked_behind}

@@ -2,13 +2,13 @@ use Rattle.std.proofs.Common.{◌≡◌, [], true, suc, Some, refl, sym, subst}
 use Rattle.world_model.specs.Action as act
 use Rattle.world_model.specs.Action.{Action}
 use Rattle.threadlet_code.specs.Machine.{step}
-use Rattle.nodelet_core.specs.Dues.{due_of}
-use Rattle.nodelet_core.specs.Runs.{action_in}
+use Rattle.nodelet_core.specs.code.Dues.{due_of}
+use Rattle.core_model.specs.Runs.{action_in}
 use Rattle.threadlet_state.specs.Activations.{state_of}
 use Rattle.nodelet_core.specs.declared.due.Due.TheVariants as due
-use Rattle.nodelet_core.specs.Contexts.{context_in}
-use Rattle.nodelet_core.specs.Nodes.{with_piece}
-use Rattle.nodelet_core.specs.Effects.{nothing, effect}
+use Rattle.nodelet_core.specs.Carried.{context_in}
+use Rattle.core_model.specs.Nodes.{with_piece}
+use Rattle.core_model.specs.Effects.{nothing, effect}
 use Rattle.nodelet_core.specs.Kept.{node_of, setup_of}
 use Rattle.nodelet_core.proofs.Resuming.{stands_before}
 use Rattle.nodelet_core.proofs.Stamps.{nothing_sent, did_before_last}

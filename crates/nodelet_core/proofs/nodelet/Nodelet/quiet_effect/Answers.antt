@@ -10,7 +10,7 @@ use Rattle.nodelet_core.specs.declared.nodelet.Nodelet.{Nodelet}
 use Rattle.nodelet_core.specs.declared.due.Due.{Due}
 use Rattle.nodelet_core.specs.declared.due.Due.TheVariants as due
 use Rattle.nodelet_core.specs.Left.{Sent}
-use Rattle.nodelet_core.specs.Doing.{IsDueHere, HadEffect, PassesWith, is_quiet}
+use Rattle.nodelet_core.specs.code.Doing.{IsDueHere, HadEffect, PassesWith, is_quiet}
 use Rattle.nodelet_core.proofs.Doing.{had_trapped}
 use Rattle.nodelet_core.proofs.nodelet.Nodelet.quiet_effect.Goals as goal
 

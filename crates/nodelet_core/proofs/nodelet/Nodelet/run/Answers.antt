@@ -16,15 +16,16 @@ use Rattle.threadlet_state.specs.Fit.{frames_fit}
 use Rattle.merge_law.specs.Machine.{is_linked}
 use Rattle.nodelet_core.specs.declared.due.Due.{Due}
 use Rattle.nodelet_core.specs.declared.next.Next.TheVariants.{Goes, Waits}
-use Rattle.nodelet_core.specs.Contexts.{Context, context_in, context_of}
-use Rattle.nodelet_core.specs.Dues.{due_of, way_seen}
+use Rattle.core_model.specs.Contexts.{Context, context_of}
+use Rattle.nodelet_core.specs.Carried.{context_in}
+use Rattle.nodelet_core.specs.code.Dues.{due_of, way_seen}
 use Rattle.nodelet_core.specs.Kept.{node_of, setup_of, next_by, context_fits, all_fit, names_at, IsUnchanged}
-use Rattle.nodelet_core.specs.Runs as runs
-use Rattle.nodelet_core.specs.Runs.{Outcome, action_in, taken_up}
-use Rattle.nodelet_core.specs.Standing.{ascends, is_among, IsFound}
-use Rattle.nodelet_core.specs.Became.{HasEntered}
+use Rattle.core_model.specs.Runs as runs
+use Rattle.core_model.specs.Runs.{Outcome, action_in, taken_up}
+use Rattle.nodelet_core.specs.code.Standing.{ascends, is_among, IsFound}
+use Rattle.nodelet_core.specs.code.Became.{HasEntered}
 use Rattle.nodelet_core.specs.Left.{HasRun}
-use Rattle.nodelet_core.specs.Doing.{Left, way_in, FollowedWay}
+use Rattle.nodelet_core.specs.code.Doing.{Left, way_in, FollowedWay}
 use Rattle.nodelet_core.proofs.Becoming.{unchanged_then}
 use Rattle.nodelet_core.proofs.Nexting.{due_told, none_told}
 use Rattle.nodelet_core.proofs.Found.{none_named, found_is, holds_at, home_among}

@@ -1,5 +1,5 @@
 use Rattle.std.proofs.Common.{◌≡◌, ◌++◌, ℕ, subst, arith}
-use Rattle.nodelet_core.specs.Told.{body_for, told_to}
+use Rattle.nodelet_core.specs.code.Told.{body_for, told_to}
 use Rattle.nodelet_core.proofs.Outgoing.{sent_to_all, item_is, item_fits}
 use Rattle.nodelet_core.proofs.nodelet.Nodelet.send_to_others.Goals as goal
 

@@ -1,6 +1,6 @@
 use Rattle.std.proofs.Common.{◌≡◌, ◌≤◌, ◌++◌, ℕ, true}
 use Rattle.merge_law.specs.Machine.{is_linked}
-use Rattle.nodelet_core.specs.Told.{body_for, told_to}
+use Rattle.nodelet_core.specs.code.Told.{body_for, told_to}
 use Rattle.nodelet_core.proofs.nodelet.Nodelet.send_to_others.Given as goal
 
 abbrev pub invariant-loop-k : goal.invariant-loop-k

@@ -1,13 +1,14 @@
 use Rattle.std.proofs.Common.{◌≡◌, suc, [], ◌∷◌, Bool, true, None, refl, sym, ap, ◌∙◌}
 use Rattle.threadlet_state.specs.declared.context.Context as carried
 use Rattle.nodelet_core.specs.declared.counting.Counted.{Counted}
-use Rattle.nodelet_core.specs.Contexts.{context_in, Arrival}
-use Rattle.nodelet_core.specs.Counted.{counted}
-use Rattle.nodelet_core.specs.Nodes.{Node, sent_away}
-use Rattle.nodelet_core.specs.Effects.{Effect, only_to}
-use Rattle.nodelet_core.specs.Runs.{gone}
+use Rattle.core_model.specs.Contexts.{Arrival}
+use Rattle.nodelet_core.specs.Carried.{context_in}
+use Rattle.nodelet_core.specs.code.Counted.{counted}
+use Rattle.core_model.specs.Nodes.{Node, sent_away}
+use Rattle.core_model.specs.Effects.{Effect, only_to}
+use Rattle.core_model.specs.Runs.{gone}
 use Rattle.nodelet_core.specs.Kept.{node_of, context_fits}
-use Rattle.nodelet_core.specs.Doing.{goes_from}
+use Rattle.nodelet_core.specs.code.Doing.{goes_from}
 use Rattle.nodelet_core.proofs.Doing.{gone_left, did_nothing, nothing_counted}
 use Rattle.nodelet_core.proofs.Stamps.{sent_from, sent_at}
 use Rattle.nodelet_core.proofs.Followed.{left_as}

@@ -2,7 +2,7 @@ use Rattle.std.proofs.Common.{◌≡◌, refl, ap, ◌∙◌, rules, to_z, of_z,
 use Rattle.service.specs.Requests.{taken_by}
 use Rattle.data_layout.specs.CursorTable.{cursor_of}
 use Rattle.world_model.specs.Allocation.{taken_from}
-use Rattle.nodelet_core.specs.Dues.{asked_request}
+use Rattle.nodelet_core.specs.code.Dues.{asked_request}
 use Rattle.nodelet_core.specs.Kept.{node_of}
 use Rattle.nodelet_core.proofs.Holding.{served_node}
 use Rattle.nodelet_core.proofs.nodelet.Nodelet.serve.Goals as goal

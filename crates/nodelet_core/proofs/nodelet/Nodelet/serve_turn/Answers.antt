@@ -1,7 +1,7 @@
 use Rattle.std.proofs.Common.{ap, refl, [], true}
 use Rattle.nodelet_core.specs.declared.due.Due.TheVariants as due
 use Rattle.nodelet_core.specs.declared.counting.Counted.{Counted}
-use Rattle.nodelet_core.specs.Effects.{nothing}
+use Rattle.core_model.specs.Effects.{nothing}
 use Rattle.nodelet_core.proofs.Resuming.{stands_before}
 use Rattle.nodelet_core.proofs.Stamps.{nothing_sent}
 use Rattle.nodelet_core.proofs.Doing.{had_whole, nothing_counted, did_nothing}

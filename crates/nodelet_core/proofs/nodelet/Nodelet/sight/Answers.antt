@@ -2,7 +2,7 @@ use Rattle.std.proofs.Common.{◌≤◌, refl, sym, ap, ◌∙◌, length, arith
 use Rattle.std.specs.Prelude.{◌==◌}
 use Rattle.threadlet_code.specs.declared.code.Code.{Code}
 use Rattle.ack_fence.specs.Counting.{count_of}
-use Rattle.nodelet_core.specs.Runs.{are_recorded}
+use Rattle.core_model.specs.Runs.{are_recorded}
 use Rattle.nodelet_core.specs.Kept.{node_of}
 use Rattle.nodelet_core.proofs.Seeing.{none_left, owed_is}
 use Rattle.nodelet_core.proofs.nodelet.Nodelet.sight.Goals as goal

@@ -12,15 +12,16 @@ use Rattle.threadlet_state.specs.Activations.{state_of}
 use Rattle.nodelet_core.specs.declared.due.Due.{Due}
 use Rattle.nodelet_core.specs.declared.due.Due.TheVariants as due
 use Rattle.nodelet_core.specs.declared.counting.Counted.{Counted}
-use Rattle.nodelet_core.specs.Contexts.{Context, Arrival, context_in}
-use Rattle.nodelet_core.specs.Dues.{due_of, asked, hint_of}
-use Rattle.nodelet_core.specs.Nodes.{Node, with_strand}
-use Rattle.nodelet_core.specs.Effects.{Sends, effect, only_to, nothing}
+use Rattle.core_model.specs.Contexts.{Context, Arrival}
+use Rattle.nodelet_core.specs.Carried.{context_in}
+use Rattle.nodelet_core.specs.code.Dues.{due_of, asked, hint_of}
+use Rattle.core_model.specs.Nodes.{Node, with_strand}
+use Rattle.core_model.specs.Effects.{Sends, effect, only_to, nothing}
 use Rattle.nodelet_core.specs.Kept.{node_of, setup_of, context_fits}
-use Rattle.nodelet_core.specs.Runs.{sight_at, is_free, has_effect, went_on}
-use Rattle.nodelet_core.specs.Machine.{stamped_node}
-use Rattle.nodelet_core.specs.Takes.{has_home}
-use Rattle.nodelet_core.specs.Doing.{Left, goes_on_at}
+use Rattle.core_model.specs.Runs.{sight_at, is_free, has_effect, went_on}
+use Rattle.core_model.specs.Machine.{stamped_node}
+use Rattle.core_model.specs.Takes.{has_home}
+use Rattle.nodelet_core.specs.code.Doing.{Left, goes_on_at}
 use Rattle.nodelet_core.proofs.Found.{home_among}
 use Rattle.nodelet_core.proofs.Followed.{bad_is, done_ready}
 use Rattle.nodelet_core.proofs.Resuming.{is_answered, stands_before, comes_asked}

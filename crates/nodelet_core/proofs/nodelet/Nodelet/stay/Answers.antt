@@ -1,9 +1,9 @@
 use Rattle.std.proofs.Common.{◌≡◌, ℕ, suc, ◌+◌, ap, ◌∙◌, arith}
 use Rattle.nodelet_core.specs.declared.counting.Counted.{Counted}
-use Rattle.nodelet_core.specs.Contexts.{context_in}
-use Rattle.nodelet_core.specs.Nodes.{Node, with_strand}
-use Rattle.nodelet_core.specs.Counted.{counted}
-use Rattle.nodelet_core.specs.Machine.{stamped_node}
+use Rattle.nodelet_core.specs.Carried.{context_in}
+use Rattle.core_model.specs.Nodes.{Node, with_strand}
+use Rattle.nodelet_core.specs.code.Counted.{counted}
+use Rattle.core_model.specs.Machine.{stamped_node}
 use Rattle.nodelet_core.specs.Kept.{node_of}
 use Rattle.nodelet_core.proofs.Becoming.{did_became}
 use Rattle.nodelet_core.proofs.nodelet.Nodelet.stay.Goals as goal

@@ -1,7 +1,7 @@
 use Rattle.std.proofs.Common.{◌≡◌, ◌∷◌, [], refl, arith}
-use Rattle.nodelet_core.specs.Contexts.{context_in}
-use Rattle.nodelet_core.specs.Nodes.{with_strand}
-use Rattle.nodelet_core.specs.Machine.{stamped_node}
+use Rattle.nodelet_core.specs.Carried.{context_in}
+use Rattle.core_model.specs.Nodes.{with_strand}
+use Rattle.core_model.specs.Machine.{stamped_node}
 use Rattle.nodelet_core.proofs.Becoming.{became_did}
 use Rattle.nodelet_core.proofs.Taking.{became_stamp}
 use Rattle.nodelet_core.proofs.nodelet.Nodelet.take_context.Goals as goal

@@ -4,9 +4,9 @@ use Rattle.std.specs.Prelude.{if◌then◌else◌}
 use Rattle.word_ops.specs.Operators.{same_word}
 use Rattle.world_model.specs.Allocation.{taken_from}
 use Rattle.ack_fence.specs.Counting.{count_of}
-use Rattle.nodelet_core.specs.Dues.{asked_request}
-use Rattle.nodelet_core.specs.Became.{Did}
-use Rattle.nodelet_core.specs.Doing.{with_taken, with_withdrawn, kept_for}
+use Rattle.nodelet_core.specs.code.Dues.{asked_request}
+use Rattle.nodelet_core.specs.code.Became.{Did}
+use Rattle.nodelet_core.specs.code.Doing.{with_taken, with_withdrawn, kept_for}
 use Rattle.nodelet_core.proofs.Becoming.{did_then}
 use Rattle.nodelet_core.proofs.Allotting.{did_counts, taken_counts, not_zero}
 use Rattle.nodelet_core.proofs.nodelet.Nodelet.take_for_all.Goals as goal

@@ -1,8 +1,9 @@
 use Rattle.std.proofs.Common.{◌≡◌, refl, ap, sym, ◌∙◌, arith, rules, to_z, of_z, w64}
 use Rattle.std.specs.Prelude.{None}
 use Rattle.world_model.specs.World as world
-use Rattle.nodelet_core.specs.Contexts.{Issued, Returned, body_in}
-use Rattle.nodelet_core.specs.Machine.{stamped_node}
+use Rattle.core_model.specs.Contexts.{Issued, Returned}
+use Rattle.nodelet_core.specs.Carried.{body_in}
+use Rattle.core_model.specs.Machine.{stamped_node}
 use Rattle.nodelet_core.proofs.Arriving.{some_code}
 use Rattle.nodelet_core.proofs.Becoming.{did_then}
 use Rattle.nodelet_core.proofs.Taking.{did_stamp, linked_as, took_item, took_word, took_result}

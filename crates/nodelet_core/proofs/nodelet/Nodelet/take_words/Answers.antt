@@ -2,10 +2,10 @@ use Rattle.std.proofs.Common.{◌≡◌, ◌≤◌, sym, subst, to_z, of_z, w64}
 use Rattle.std.proofs.lemmas.Int.{to_z-of_z}
 use Rattle.world_model.specs.Allocation.{taken_from}
 use Rattle.nodelet_mem.specs.Words.{grant_room}
-use Rattle.nodelet_core.specs.Effects.{with_fresh}
-use Rattle.nodelet_core.specs.Dues.{asked_request}
-use Rattle.nodelet_core.specs.Became.{Did}
-use Rattle.nodelet_core.specs.Doing.{with_cursors, grant_for, with_taken}
+use Rattle.core_model.specs.Effects.{with_fresh}
+use Rattle.nodelet_core.specs.code.Dues.{asked_request}
+use Rattle.nodelet_core.specs.code.Became.{Did}
+use Rattle.nodelet_core.specs.code.Doing.{with_cursors, grant_for, with_taken}
 use Rattle.nodelet_core.proofs.Becoming.{did_then}
 use Rattle.nodelet_core.proofs.nodelet.Nodelet.take_words.Goals as goal
 

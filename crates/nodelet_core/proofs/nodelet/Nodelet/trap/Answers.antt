@@ -1,10 +1,10 @@
 use Rattle.std.proofs.Common.{◌≡◌, suc, [], ap, ◌∙◌}
 use Rattle.nodelet_core.specs.declared.counting.Counted.{Counted}
-use Rattle.nodelet_core.specs.Nodes.{with_trap, without_strand, moved_from}
-use Rattle.nodelet_core.specs.Counted.{at_number}
-use Rattle.nodelet_core.specs.Machine.{stamped_node}
+use Rattle.core_model.specs.Nodes.{with_trap, without_strand, moved_from}
+use Rattle.nodelet_core.specs.code.Counted.{at_number}
+use Rattle.core_model.specs.Machine.{stamped_node}
 use Rattle.nodelet_core.specs.Kept.{node_of}
-use Rattle.nodelet_core.specs.Doing.{goes_from}
+use Rattle.nodelet_core.specs.code.Doing.{goes_from}
 use Rattle.nodelet_core.proofs.Becoming.{became_did}
 use Rattle.nodelet_core.proofs.Stamps.{moved_stamp}
 use Rattle.nodelet_core.proofs.Doing.{nothing_counted}

@@ -6,8 +6,8 @@ use Rattle.threadlet_code.specs.Machine.{State}
 use Rattle.threadlet_code.specs.Running.{owed}
 use Rattle.threadlet_state.specs.Activations.{state_of}
 use Rattle.ack_fence.specs.Counting.{count_of}
-use Rattle.nodelet_core.specs.Dues.{due_of, asked, seen}
-use Rattle.nodelet_core.specs.Runs.{way_of, is_free, are_recorded}
+use Rattle.nodelet_core.specs.code.Dues.{due_of, asked, seen}
+use Rattle.core_model.specs.Runs.{way_of, is_free, are_recorded}
 use Rattle.nodelet_core.specs.Kept.{node_of}
 use Rattle.nodelet_core.proofs.Deciding.{sees, decided}
 use Rattle.nodelet_core.proofs.Syncing.{sync_depth, free_is}

@@ -1,9 +1,9 @@
 use Rattle.std.proofs.Common.{◌≡◌, sym, ap, ◌∙◌, subst, rules, to_z, of_z, w64}
 use Rattle.service.specs.Requests.{taken_by, words_granted}
 use Rattle.world_model.specs.Allocation.{taken_from}
-use Rattle.nodelet_core.specs.Dues.{asked_request}
+use Rattle.nodelet_core.specs.code.Dues.{asked_request}
 use Rattle.nodelet_core.specs.Kept.{node_of}
-use Rattle.nodelet_core.specs.Doing.{address_for, fresh_of, grant_for}
+use Rattle.nodelet_core.specs.code.Doing.{address_for, fresh_of, grant_for}
 use Rattle.nodelet_core.proofs.Granting.{grants_none, grants_some}
 use Rattle.nodelet_core.proofs.nodelet.Nodelet.words_to_grant.Goals as goal
 

@@ -1,8 +1,8 @@
 use Rattle.std.proofs.Common.{◌≡◌, sym, ap, ◌∙◌, subst, arith}
 use Rattle.std.specs.Prelude.{Err, is_ok}
 use Rattle.std.specs.List.{insert}
-use Rattle.nodelet_core.specs.Standing.{ascends, names_of}
-use Rattle.nodelet_core.specs.Changed.{IsPlace}
+use Rattle.nodelet_core.specs.code.Standing.{ascends, names_of}
+use Rattle.nodelet_core.specs.code.Changed.{IsPlace}
 use Rattle.nodelet_core.proofs.Coming.{insert_ascends}
 use Rattle.nodelet_core.proofs.Arriving.{put_in}
 use Rattle.nodelet_core.proofs.Changed.{inserted, in_place, names_inserted, names_kept}

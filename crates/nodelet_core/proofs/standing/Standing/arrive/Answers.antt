@@ -3,8 +3,8 @@ use Rattle.std.specs.Prelude.{Ok, Err, is_ok}
 use Rattle.std.specs.List.{insert}
 use Rattle.std.specs.Result.{is_err}
 use Rattle.threadlet_state.specs.declared.context.Context as carried
-use Rattle.nodelet_core.specs.Standing.{ascends, names_of}
-use Rattle.nodelet_core.specs.Changed.{IsPlace, IsWith}
+use Rattle.nodelet_core.specs.code.Standing.{ascends, names_of}
+use Rattle.nodelet_core.specs.code.Changed.{IsPlace, IsWith}
 use Rattle.nodelet_core.proofs.Coming.{insert_ascends}
 use Rattle.nodelet_core.proofs.Changed.{inserted, in_place, names_inserted, names_kept}
 use Rattle.nodelet_core.proofs.Arriving.{put_in, where_ok}

@@ -1,6 +1,6 @@
 use Rattle.std.proofs.Common.{Less, Equal, Greater, ◌≡◌, ◌<◌, length, get_or, sym, ap, ◌∙◌, subst, arith}
 use Rattle.word_ops.specs.contracts.name.NameOrd.TheImpl.{ghosts as by}
-use Rattle.nodelet_core.specs.Standing.{ascends}
+use Rattle.nodelet_core.specs.code.Standing.{ascends}
 use Rattle.nodelet_core.proofs.Found.{same, never_falls, name_at, as_many, not_here}
 use Rattle.nodelet_core.proofs.standing.Standing.find.Goals as goal
 

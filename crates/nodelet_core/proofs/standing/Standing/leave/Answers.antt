@@ -1,5 +1,5 @@
 use Rattle.std.proofs.Common.{sym, ap, ◌∙◌, arith}
-use Rattle.nodelet_core.specs.Standing.{ascends}
+use Rattle.nodelet_core.specs.code.Standing.{ascends}
 use Rattle.nodelet_core.proofs.Found.{as_many, none_named, holds_at}
 use Rattle.nodelet_core.proofs.Coming.{remove_ascends}
 use Rattle.nodelet_core.proofs.Changed.{taken_out, none_out, nowhere, found_named, names_removed}

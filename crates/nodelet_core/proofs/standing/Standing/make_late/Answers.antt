@@ -1,6 +1,6 @@
 use Rattle.std.proofs.Common.{sym, ap, ◌∙◌, Some}
 use Rattle.threadlet_state.specs.declared.context.Context as carried
-use Rattle.nodelet_core.specs.Standing.{ascends}
+use Rattle.nodelet_core.specs.code.Standing.{ascends}
 use Rattle.nodelet_core.proofs.Changed.{names_kept}
 use Rattle.nodelet_core.proofs.Lateness.{is_late, none_late, own_name}
 use Rattle.nodelet_core.proofs.standing.Standing.make_late.Goals as goal

@@ -1,5 +1,5 @@
 use Rattle.std.proofs.Common.{sym, ap, ◌∙◌}
-use Rattle.nodelet_core.specs.Standing.{ascends, names_of}
+use Rattle.nodelet_core.specs.code.Standing.{ascends, names_of}
 use Rattle.nodelet_core.proofs.Placing.{is_placed}
 use Rattle.nodelet_core.proofs.standing.Standing.place.Goals as goal
 

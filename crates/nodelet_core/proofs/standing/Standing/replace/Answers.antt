@@ -1,7 +1,7 @@
 use Rattle.std.proofs.Common.{◌≡◌, ap, sym, ◌∙◌, subst, slice_set}
 use Rattle.threadlet_state.specs.declared.context.Context as carried
-use Rattle.nodelet_core.specs.Standing.{ascends, names_of}
-use Rattle.nodelet_core.specs.Changed.{IsWith}
+use Rattle.nodelet_core.specs.code.Standing.{ascends, names_of}
+use Rattle.nodelet_core.specs.code.Changed.{IsWith}
 use Rattle.nodelet_core.proofs.Changed.{in_place, names_kept}
 use Rattle.nodelet_core.proofs.Lateness.{missing}
 use Rattle.nodelet_core.proofs.standing.Standing.replace.Goals as goal

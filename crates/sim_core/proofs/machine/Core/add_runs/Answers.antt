@@ -4,11 +4,12 @@ use Rattle.std.specs.Prelude.{filter, slice_get, [], ◌∷◌, if◌then◌else
 use Rattle.word_ops.specs.Report.{below}
 use Rattle.threadlet_code.specs.declared.code.Code.{Code}
 use Rattle.threadlet_state.specs.declared.context.Context as carried
-use Rattle.nodelet_core.specs.Contexts.{Context, context_in}
+use Rattle.core_model.specs.Contexts.{Context}
+use Rattle.nodelet_core.specs.Carried.{context_in}
 use Rattle.nodelet_core.specs.Kept.{carried_at}
 use Rattle.merge_law.specs.declared.event.Event.{Event}
 use Rattle.merge_law.specs.declared.event.Event.TheVariants as event
-use Rattle.sim_core.specs.Core.{is_legal}
+use Rattle.core_model.specs.Core.{is_legal}
 use Rattle.sim_core.specs.Kept.{setup_in, node_by, core_in}
 use Rattle.sim_core.proofs.Listing.{listed_to, listed_below, listed_on, passed, left_out}
 use Rattle.sim_core.proofs.machine.Core.add_runs.Goals as goal

@@ -2,7 +2,7 @@ use Rattle.std.proofs.Common.{◌≡◌, ◌++◌, map}
 use Rattle.std.specs.Prelude.{filter}
 use Rattle.word_ops.specs.Report.{below}
 use Rattle.merge_law.specs.declared.event.Event.TheVariants as event
-use Rattle.sim_core.specs.Core.{is_legal}
+use Rattle.core_model.specs.Core.{is_legal}
 use Rattle.sim_core.specs.Kept.{setup_in, core_in}
 use Rattle.sim_core.proofs.machine.Core.add_takes.Given as goal
 

@@ -5,7 +5,7 @@ use Rattle.merge_law.specs.Machine.{last_stamp}
 use Rattle.nodelet_core.specs.contracts.next.Next.{the_type}
 use Rattle.nodelet_core.specs.declared.next.Next.TheVariants.{Goes}
 use Rattle.nodelet_core.specs.Kept.{node_of, setup_of, next_by}
-use Rattle.nodelet_core.specs.Runs.{run}
+use Rattle.core_model.specs.Runs.{run}
 use Rattle.sim_core.proofs.Legal.{fits_there, run_legal_there}
 use Rattle.sim_core.proofs.machine.Core.can_run.Goals as goal
 

@@ -3,9 +3,9 @@ use Rattle.std.specs.Prelude.{slice_get}
 use Rattle.std.specs.Option.{option_copied}
 use Rattle.std.proofs.lemmas.Bool.{lt-ltb}
 use Rattle.std.proofs.lemmas.Bool.Decides.{nat_tests}
-use Rattle.nodelet_core.specs.Nodes.{Node}
+use Rattle.core_model.specs.Nodes.{Node}
 use Rattle.merge_law.specs.Machine.{last_stamp}
-use Rattle.sim_core.specs.Links.{packets_to}
+use Rattle.sim_core.specs.code.Links.{packets_to}
 use Rattle.sim_core.specs.Kept.{core_in}
 use Rattle.sim_core.proofs.Linked.{packets_there, reached_there, first_and_rest, no_first}
 use Rattle.sim_core.proofs.Legal.{and_true, and_false, none_to_take_there, first_to_take_there, node_there}

@@ -1,10 +1,10 @@
 use Rattle.std.proofs.Common.{[], ◌++◌, map, ap, sym, ◌∙◌, flat_map}
 use Rattle.std.specs.Prelude.{slice_get}
 use Rattle.word_ops.specs.Report.{below}
-use Rattle.nodelet_core.specs.Contexts.{Context}
+use Rattle.core_model.specs.Contexts.{Context}
 use Rattle.nodelet_core.specs.Kept.{names_at}
 use Rattle.sim_core.specs.Kept.{setup_in, node_by}
-use Rattle.sim_core.specs.Named.{names_from}
+use Rattle.sim_core.specs.code.Named.{names_from}
 use Rattle.sim_core.proofs.CensusKept.{standing_named, travelling_named}
 use Rattle.sim_core.proofs.machine.Core.census.Goals as goal
 

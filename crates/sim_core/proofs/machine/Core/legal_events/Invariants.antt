@@ -1,7 +1,7 @@
 use Rattle.std.proofs.Common.{◌≡◌, ◌++◌}
 use Rattle.std.specs.Prelude.{flat_map}
 use Rattle.word_ops.specs.Report.{below}
-use Rattle.sim_core.specs.Core as core
+use Rattle.core_model.specs.Core as core
 use Rattle.sim_core.specs.Kept.{setup_in, core_in}
 use Rattle.sim_core.proofs.machine.Core.legal_events.Given as goal
 

@@ -7,7 +7,7 @@ use Rattle.std.proofs.lemmas.Result.{on_ok_weaker}
 use Rattle.nodelet_core.specs.Kept.{packet_fits, SameSettings}
 use Rattle.nodelet_core.specs.Kept as nodelet
 use Rattle.nodelet_core.specs.Left.{HasRun}
-use Rattle.sim_core.specs.Links.{packets_to, has_links}
+use Rattle.sim_core.specs.code.Links.{packets_to, has_links}
 use Rattle.sim_core.proofs.AtPlaces.{list_all_at_place}
 use Rattle.sim_core.proofs.Linked.{as_many_links}
 use Rattle.sim_core.proofs.Legal.{fits_there}

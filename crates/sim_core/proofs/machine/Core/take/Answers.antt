@@ -6,10 +6,10 @@ use Rattle.std.proofs.lemmas.Option.{slice_get_read}
 use Rattle.std.proofs.lemmas.List.Sums.{list_all-from_AllPass}
 use Rattle.nodelet_core.specs.Kept.{all_fit, packet_fits, context_fits}
 use Rattle.nodelet_core.specs.Left.{HasTaken}
-use Rattle.sim_core.specs.Links.{packets_to, has_links}
+use Rattle.sim_core.specs.code.Links.{packets_to, has_links}
 use Rattle.sim_core.specs.Kept.{outgoing_fits}
 use Rattle.sim_core.proofs.AtPlaces.{list_all_at_place}
-use Rattle.sim_core.proofs.Sees.{both_true}
+use Rattle.core_model.proofs.Actions.Sights.{both_true}
 use Rattle.sim_core.proofs.Linked.{as_many_links}
 use Rattle.sim_core.proofs.Legal.{fits_there}
 use Rattle.sim_core.proofs.Outcomes.{all_changed, changed_numbered, packets_fit, fits_after, still}

@@ -1,0 +1,11 @@
+pub mod Sights
+pub mod StrandAfter
+pub mod DueContext
+pub mod Ways
+pub mod DoneOrRefused
+pub mod StayOrLeave
+pub mod WordActions
+pub mod Grants
+pub mod NothingPending
+pub mod LastActions
+pub mod RunOutcomes

@@ -1,0 +1,4 @@
+pub mod LiveStrands
+pub mod ContextOrder
+pub mod OrderKept
+pub mod NamesOnce

@@ -1,0 +1,4 @@
+pub mod Samples
+mod Events
+mod Counts
+mod Ranks

@@ -1,0 +1,2 @@
+pub mod TrapsByPlay
+pub mod FirstTraps

@@ -1,0 +1,11 @@
+pub mod ContextsByName
+pub mod Links
+pub mod Views
+pub mod Sums
+pub mod LatePositions
+pub mod StrandStates
+pub mod Statement
+pub mod StandingStrand
+pub mod OtherStrands
+pub mod Start
+pub mod Agreement

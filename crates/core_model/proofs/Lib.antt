@@ -1,0 +1,11 @@
+pub mod Halted
+pub mod Invariant
+pub mod Actions
+pub mod Events
+pub mod Traffic
+pub mod FirstTrap
+pub mod Census
+pub mod Packets
+pub mod Rank
+pub mod NotStuck
+pub mod Examples

@@ -1,0 +1,11 @@
+pub mod RunsEnd
+pub mod Finds
+pub mod LastStamp
+pub mod BirthOrder
+pub mod Lineage
+pub mod Untrapped
+pub mod StampBounds
+pub mod StillCore
+pub mod BlockedContext
+pub mod LackedTurns
+pub mod NeverStuck

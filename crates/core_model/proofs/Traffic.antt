@@ -1,0 +1,10 @@
+pub mod Notes
+pub mod ActionNotes
+pub mod TakeNotes
+pub mod Parents
+pub mod CountsByPlay
+pub mod StepCounts
+pub mod EventCounts
+pub mod RunCounts
+pub mod CountsByEvent
+pub mod CountsAreTraffic

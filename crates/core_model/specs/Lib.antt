@@ -1,0 +1,13 @@
+pub mod Contexts
+pub mod Nodes
+pub mod Effects
+pub mod Runs
+pub mod Takes
+pub mod Start
+pub mod Machine
+pub mod Core
+pub mod Agreement
+pub mod Reached
+pub mod Counted
+pub mod Rank
+pub mod Laws

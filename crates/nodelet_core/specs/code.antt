@@ -1,0 +1,9 @@
+pub mod Operands
+pub mod Dues
+pub mod Standing
+pub mod Changed
+pub mod Tallied
+pub mod Counted
+pub mod Became
+pub mod Doing
+pub mod Told
