@@ -36,3 +36,27 @@ fn a_missing_result_is_found_soon(rt: HostRuntime) {
     let joins = Joins::new(rt.alloc());
     assert!(rt; !joins.ready(MAIN, 1, u64::MAX));
 }
+
+#[test]
+fn many_children_may_end_in_any_order(rt: HostRuntime) -> Result<(), AllocError> {
+    let mut joins = Joins::new(rt.alloc());
+    // Each number under 40 comes once: 7 has no factor in common with 40.
+    for turn in 0..40u64 {
+        assert!(rt; !joins.ready(MAIN, 3, 40));
+        let order = turn * 7 % 40;
+        let ticket = Ticket {
+            parent: MAIN,
+            home: 0,
+            depth: 3,
+            order,
+        };
+        joins.add(ticket, order as i64)?;
+    }
+    assert!(rt; joins.ready(MAIN, 3, 40));
+    assert!(rt; !joins.ready(MAIN, 3, 41));
+    let results = joins.collect(MAIN, 3, 40)?;
+    assert_eq!(rt; results.len(), 40);
+    assert!(rt; joins.ready(MAIN, 3, 0));
+    assert!(rt; !joins.ready(MAIN, 3, 40));
+    Ok(())
+}
