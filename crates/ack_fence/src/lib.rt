@@ -36,12 +36,23 @@ impl Counts {
         ensures ok { OnOk result ((q : StrandName) → count_of self.new q ≡ (if same_name q name then count_of self.old q + 1 else count_of self.old q)) }
         ensures err { OnErr result ((q : StrandName) → count_of self.new q ≡ count_of self.old q) }
     {
+        self.issue_many(name, 1)
+    }
+
+    /// So many operations more of `name` are under way. Want of memory changes nothing.
+    pub fn issue_many(&mut self, name: Name, more: u64) -> Result<(), AllocError>
+        ensures ok { OnOk result ((q : StrandName) → count_of self.new q ≡ (if same_name q name then count_of self.old q + more else count_of self.old q)) }
+        ensures err { OnErr result ((q : StrandName) → count_of self.new q ≡ count_of self.old q) }
+    {
+        if more == 0 {
+            return Ok(());
+        }
         let under_way = self.by_name.get(&name).copied().unwrap_or(0);
         // Each operation under way is a packet somewhere, and no memory holds 2^64 of them.
-        let Some(one_more) = under_way.checked_add(1) else {
+        let Some(all) = under_way.checked_add(more) else {
             return Err(AllocError);
         };
-        self.by_name.insert(name, one_more)?;
+        self.by_name.insert(name, all)?;
         Ok(())
     }
 

@@ -44,6 +44,7 @@ fn many_children_may_end_in_any_order(rt: HostRuntime) -> Result<(), AllocError>
     for turn in 0..40u64 {
         assert!(rt; !joins.ready(MAIN, 3, 40));
         let order = turn * 7 % 40;
+        assert!(rt; !joins.has(MAIN, 3, order));
         let ticket = Ticket {
             parent: MAIN,
             home: 0,
