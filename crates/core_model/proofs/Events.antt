@@ -19,3 +19,4 @@ pub mod RunByWay
 pub mod Run
 pub mod Play
 pub mod EventsAreRun
+pub mod GoingOn

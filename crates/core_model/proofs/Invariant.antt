@@ -9,3 +9,5 @@ pub mod StandingStrand
 pub mod OtherStrands
 pub mod Start
 pub mod Agreement
+pub mod AllCells
+pub mod NothingMissing

@@ -8,4 +8,5 @@ pub mod Census
 pub mod Packets
 pub mod Rank
 pub mod NotStuck
+pub mod Ends
 pub mod Examples

@@ -4,3 +4,4 @@ pub mod OwnedWords
 pub mod SentResults
 pub mod ResultHomes
 pub mod FirstCanCome
+pub mod TravellingContexts

@@ -11,3 +11,7 @@ pub mod Reached
 pub mod Counted
 pub mod Rank
 pub mod Laws
+pub mod GoingOn
+pub mod AllCells
+pub mod CoreEnd
+pub mod Strands
