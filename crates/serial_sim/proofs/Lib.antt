@@ -1,3 +1,5 @@
 pub mod Once
+pub mod GoesFurther
+pub mod LegalOnes
 mod WordExamples
 mod PickExamples

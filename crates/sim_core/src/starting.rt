@@ -1,12 +1,12 @@
 //! A core before any event.
 
-ghost use Rattle.std.specs.Prelude.{◌≡◌, ◌≤◌, true, length, IfOk};
+ghost use Rattle.std.specs.Prelude.{◌≡◌, ◌≤◌, ℕ, [], true, length, IfOk};
 ghost use Rattle.std.specs.List.{list_all};
 ghost use Rattle.core_model.specs.Core.{start_core};
 ghost use Rattle.sim_core.specs.code.Links.{has_links, are_clear};
 ghost use Rattle.sim_core.specs.code.Numbered.{AreFirst};
 ghost use Rattle.sim_core.specs.Kept.{setup_in, core_in, core_fits};
-ghost use Rattle.sim_core.specs.Advanced.{IsReached};
+ghost use Rattle.sim_core.specs.Advanced.{IsReached, entries_at};
 
 use crate::machine::Core;
 use crate::outgoing::Outgoing;
@@ -33,6 +33,7 @@ impl Core {
         ensures rules { IfOk result (λ it. it.rules ≡ rules) }
         ensures fits { IfOk result (λ it. core_fits code.now.code it ≡ true) }
         ensures reached { IfOk result (λ it. IsReached code.now.code it) }
+        ensures entries { IfOk result (λ it. (k : ℕ) → entries_at it k ≡ []) }
     {
         let nodes = first_nodes(alloc, n, turns, code, rules)?;
         let links = first_links(alloc, n)?;

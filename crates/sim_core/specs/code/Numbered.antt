@@ -1,5 +1,5 @@
 -- The nodelets of a run, numbered from 0 on.
-use Rattle.std.specs.Prelude.{◌≡◌, ℕ, List, slice_get, Some, true}
+use Rattle.std.specs.Prelude.{◌≡◌, ℕ, List, [], slice_get, Some, true}
 use Rattle.word_ops.specs.declared.rules.Rules.{Rules}
 use Rattle.threadlet_code.specs.declared.code.Code.{Code}
 use Rattle.nodelet_core.specs.declared.nodelet.Nodelet.{Nodelet}
@@ -27,6 +27,7 @@ pub record IsFirst (code : Code) (n turns : ℕ) (rules : Rules) (k : ℕ) (v : 
   pub numbered : IsNumbered n turns rules k v
   pub node : node_of code v ≡ start_node (setup_with code n turns rules) k
   pub fits : all_fit code v ≡ true
+  pub entries : v.entries ≡ []
 
 abbrev pub AreFirst : Code → ℕ → ℕ → Rules → List Nodelet → Type 0
 AreFirst code n turns rules nodes = (k : ℕ) (v : Nodelet) → slice_get nodes k ≡ Some v → IsFirst code n turns rules k v

@@ -21,6 +21,7 @@ loop-k-preserved c =
       numbered = record { number = is.number; nodelets = is.nodelets; turns_same = is.turns; rules_same = is.rules };
       node = is.node ∙ ap (λ u. start_node u k) setup;
       fits = is.fits;
+      entries = is.entries;
     } in
     record {
       count = ap length pushed ∙ one_more ∙ ap (λ i. i + 1) c.loop-k.invariant.count;

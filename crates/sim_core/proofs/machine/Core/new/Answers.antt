@@ -1,4 +1,8 @@
-use Rattle.std.proofs.Common.{refl}
+use Rattle.std.proofs.Common.{◌≡◌, ℕ, List, [], Option, None, Some, refl}
+use Rattle.std.specs.Prelude.{slice_get}
+use Rattle.nodelet_core.specs.declared.nodelet.Nodelet.{Nodelet}
+use Rattle.sim_core.specs.Numbered.{AreFirst}
+use Rattle.sim_core.specs.Advanced.{entries_in}
 use Rattle.sim_core.proofs.FirstCore.{first_core, first_fits, first_numbered, clear_fits}
 use Rattle.sim_core.proofs.Playing.{reached_first}
 use Rattle.sim_core.proofs.machine.Core.new.Goals as goal
@@ -27,3 +31,10 @@ returns-clause-fits c =
 
 pub returns-clause-reached : goal.returns-clause-reached
 returns-clause-reached c = reached_first c.args.code.now.code _ (returns-clause-core c)
+
+pub returns-clause-entries : goal.returns-clause-entries
+returns-clause-entries c = λ k. none k (slice_get c.in_ok-nodes.nodes.items k) refl
+  where
+    none : (k : ℕ) (o : Option Nodelet) → slice_get c.in_ok-nodes.nodes.items k ≡ o → entries_in o ≡ []
+    none k None e = refl
+    none k (Some v) e = (c.in_ok-nodes.ensures.first k v e).entries
