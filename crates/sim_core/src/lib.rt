@@ -6,6 +6,7 @@ mod advancing;
 mod link;
 mod machine;
 mod naming;
+mod outcome;
 mod outgoing;
 mod starting;
 
