@@ -9,6 +9,7 @@ mod naming;
 mod outcome;
 mod outgoing;
 mod starting;
+mod traffic;
 
 pub use machine::Core;
 pub use merge_law::Event;

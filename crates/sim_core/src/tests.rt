@@ -1,4 +1,4 @@
-ghost use Rattle.std.specs.Prelude.{◌≡◌, true};
+ghost use Rattle.std.specs.Prelude.{◌≡◌, ◌<◌, ◌^◌, length, true};
 ghost use Rattle.sim_core.specs.Kept.{core_fits};
 ghost use Rattle.sim_core.specs.Advanced.{IsReached};
 
@@ -14,7 +14,9 @@ const MAIN: Name = Name {
 };
 
 /// The code of a text.
-fn verified(alloc: Global, text: &[u8]) -> Result<Verified, AllocError> {
+fn verified(alloc: Global, text: &[u8]) -> Result<Verified, AllocError>
+    requires { length text.now < 2 ^ 32 }
+{
     match read(alloc, text) {
         Ok(code) => match verify(alloc, code) {
             Ok(code) => Ok(code),
