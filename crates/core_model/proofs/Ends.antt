@@ -1,5 +1,3 @@
 pub mod FirstBelow
 pub mod Earliest
 pub mod TrapsTold
-pub mod TurnsLacked
-pub mod EndShown

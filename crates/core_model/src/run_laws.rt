@@ -2,9 +2,9 @@
 //! does nothing; its contract is the law.
 
 ghost use Rattle.core_model.specs.AllCells.{CellsAreAll, CellsBeyondAreZero};
-ghost use Rattle.core_model.specs.CoreEnd.{EventTrapsAtOneNodelet, MergedEndIsShown, SerialEndIsShown};
+ghost use Rattle.core_model.specs.CoreEnd.{EventTrapsAtOneNodelet};
 ghost use Rattle.core_model.specs.GoingOn.{EventGoesOn, EventsGoOn, LegalIsListed, NoneListedIsStill};
-ghost use Rattle.core_model.specs.Strands.{ContextsTravel, EventsMissNothing, MainEndsLast};
+ghost use Rattle.core_model.specs.Strands.{ContextsTravel, EventsMissNothing};
 
 /// Where events lead to a core and more go on from it, or one more does, all of them lead where those do and
 /// tell of both (docs/machine.md, "The core").
@@ -44,26 +44,8 @@ pub fn law_events_miss_nothing()
     ensures { EventsMissNothing }
 {}
 
-/// Once main of verified code has ended no strand lives, and no context is left
-/// (docs/machine.md, "The core").
-pub fn law_main_ends_last()
-    ensures { MainEndsLast }
-{}
-
 /// Where no nodelet has kept a trap, one event makes strands trap at one nodelet at most
 /// (docs/machine.md, "The core").
 pub fn law_event_traps_at_one_nodelet()
     ensures { EventTrapsAtOneNodelet }
-{}
-
-/// Where legal events have stopped, with traps at one nodelet at most, the run has ended as the core shows,
-/// in whatever order its events were told (docs/machine.md, "The core").
-pub fn law_serial_end_is_shown()
-    ensures { SerialEndIsShown }
-{}
-
-/// Where legal events have stopped that were told by stamp and then nodelet, the run has ended as the core
-/// shows, whatever traps there were (docs/machine.md, "The core").
-pub fn law_merged_end_is_shown()
-    ensures { MergedEndIsShown }
 {}

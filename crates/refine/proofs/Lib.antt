@@ -4,3 +4,5 @@ pub mod Alike
 pub mod Runs
 pub mod Counts
 pub mod Events
+pub mod Upgrades
+pub mod CodeRuns

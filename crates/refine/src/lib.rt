@@ -2,6 +2,8 @@
 //! traffic and its end (docs/machine.md, "The core").
 #![tactic(auto)]
 
+mod code_laws;
 mod laws;
 
+pub use code_laws::{law_code_not_stuck, law_code_run, law_upgrades_alike};
 pub use laws::{law_alike, law_census, law_not_stuck, law_run, law_runs_end};

@@ -16,16 +16,16 @@ use Rattle.merge_law.specs.Core as merge
 use Rattle.merge_law.specs.Merge.{steps_of, entries_of, entry_of, is_of}
 use Rattle.merge_law.proofs.Somes.{from_map}
 use Rattle.threadlet_code.specs.declared.code.Code.{Code}
-use Rattle.nodelet_core.specs.Nodes.{Setup, Node}
-use Rattle.nodelet_core.specs.Machine.{Packet, machine_of}
+use Rattle.core_model.specs.Nodes.{Setup, Node}
+use Rattle.core_model.specs.Machine.{Packet, machine_of}
 use Rattle.sim_core.specs.declared.machine.Core.{Core as Kept}
-use Rattle.sim_core.specs.Core.{Core, start_core}
+use Rattle.core_model.specs.Core.{Core, start_core}
 use Rattle.sim_core.specs.Kept.{setup_in, core_in}
 use Rattle.sim_core.specs.Advanced.{HasAdvanced, IsReached, entries_at}
-use Rattle.sim_core.specs.Laws.{IsPlayed}
+use Rattle.core_model.specs.Laws.{IsPlayed}
 use Rattle.sim_core.proofs.Playing.{plays_on, same_setup}
-use Rattle.sim_core.specs.Rank.{rank}
-use Rattle.sim_core.proofs.Falling.{events_lower_rank}
+use Rattle.core_model.specs.Rank.{rank}
+use Rattle.core_model.proofs.Rank.RankOfEvents.{events_lower_rank}
 use Rattle.threadlet_code.specs.Breaches.{is_sound}
 use Rattle.serial_sim.specs.Schedule.{generator_of, picked, has_trapped, IsPicked}
 use Rattle.serial_sim.specs.code.Going.{IsGoing}

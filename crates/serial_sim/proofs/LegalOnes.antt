@@ -6,8 +6,8 @@ use Rattle.std.proofs.lemmas.List.Folds.{list_all-append}
 use Rattle.word_ops.specs.Report.{below}
 use Rattle.merge_law.specs.declared.event.Event.{Event}
 use Rattle.merge_law.specs.declared.event.Event.TheVariants.{Run, Take}
-use Rattle.nodelet_core.specs.Nodes.{Setup}
-use Rattle.sim_core.specs.Core.{Core, is_legal, runs_at, takes_at, legal_events}
+use Rattle.core_model.specs.Nodes.{Setup}
+use Rattle.core_model.specs.Core.{Core, is_legal, runs_at, takes_at, legal_events}
 use Rattle.sim_core.proofs.AtPlaces.{list_all_at_place}
 use Rattle.serial_sim.specs.Schedule.{picked}
 

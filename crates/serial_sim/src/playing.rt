@@ -3,8 +3,8 @@
 ghost use Rattle.std.specs.Prelude.{◌≡◌, ◌≤◌, ◌<◌, ◌++◌, ◌∷◌, [], length, List as Seq, true, option_to_list, IfOk, OnOk};
 ghost use Rattle.word_ops.specs.declared.step.Entry.{Entry as Noted};
 ghost use Rattle.merge_law.specs.Events.{nodelet_of as happens_at};
-ghost use Rattle.sim_core.specs.Numbered.{setup_with};
-ghost use Rattle.sim_core.specs.Core.{is_legal};
+ghost use Rattle.sim_core.specs.code.Numbered.{setup_with};
+ghost use Rattle.core_model.specs.Core.{is_legal};
 ghost use Rattle.sim_core.specs.Kept.{setup_in, core_in, core_fits};
 ghost use Rattle.sim_core.specs.Advanced.{entries_at, IsReached};
 ghost use Rattle.serial_sim.specs.code.Going.{HasHappened, HasGone};

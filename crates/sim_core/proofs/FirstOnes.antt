@@ -17,16 +17,16 @@ use Rattle.threadlet_state.specs.declared.context.Context as carried
 use Rattle.threadlet_state.specs.Activations.{state_of}
 use Rattle.world_model.specs.Run.{is_turn}
 use Rattle.nodelet_core.specs.declared.nodelet.Nodelet.{Nodelet}
-use Rattle.nodelet_core.specs.Nodes.{Setup}
-use Rattle.nodelet_core.specs.Contexts.{context_in}
-use Rattle.nodelet_core.specs.Runs.{action_in}
+use Rattle.core_model.specs.Nodes.{Setup}
+use Rattle.core_model.specs.Contexts.{context_in}
+use Rattle.core_model.specs.Runs.{action_in}
 use Rattle.nodelet_core.specs.Kept.{node_of, carried_at, is_at_turn}
 use Rattle.sim_core.specs.declared.machine.Core.{Core as Kept}
 use Rattle.sim_core.specs.Kept.{setup_in}
-use Rattle.sim_core.specs.CoreEnd.{stands_at_turn, lacks_turn_at}
+use Rattle.core_model.specs.CoreEnd.{stands_at_turn, lacks_turn_at}
 use Rattle.sim_core.proofs.Legal.{numbered_there}
-use Rattle.nodelet_core.specs.declared.trapped.Trapped.{Trapped}
-use Rattle.sim_core.specs.CoreEnd.{is_earlier, earliest}
+use Rattle.core_model.specs.declared.trapped.Trapped.{Trapped}
+use Rattle.core_model.specs.CoreEnd.{is_earlier, earliest}
 use Rattle.sim_core.specs.code.Earlier.{earlier_of}
 
 pub none_where_not : {A : Type 0} (o : Option A) → is_some o ≡ false → o ≡ None

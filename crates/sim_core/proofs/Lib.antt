@@ -8,3 +8,5 @@ pub mod Playing
 pub mod Outcomes
 pub mod Runnable
 pub mod Taken
+pub mod FirstOnes
+pub mod TallyLists

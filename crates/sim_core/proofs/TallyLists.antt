@@ -10,7 +10,7 @@ use Rattle.word_ops.specs.Report.{below}
 use Rattle.word_ops.specs.declared.traffic.Traffic.{Traffic}
 use Rattle.threadlet_code.specs.declared.code.Code.{Code}
 use Rattle.nodelet_core.specs.declared.nodelet.Nodelet.{Nodelet}
-use Rattle.nodelet_core.specs.Nodes.{Node}
+use Rattle.core_model.specs.Nodes.{Node}
 use Rattle.nodelet_core.specs.Kept.{node_of}
 use Rattle.sim_core.specs.declared.machine.Core.{Core as Kept}
 use Rattle.sim_core.specs.Kept.{core_in}

@@ -1,3 +1,4 @@
 pub mod Kept
 pub mod Advanced
 pub mod code
+pub mod Shown

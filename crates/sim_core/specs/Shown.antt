@@ -5,10 +5,10 @@ use Rattle.word_ops.specs.declared.step.Entry.{Entry}
 use Rattle.word_ops.specs.Report.{below}
 use Rattle.world_model.specs.Cells.{AreCells}
 use Rattle.traffic_report.specs.declared.run.Ran.{Ran}
-use Rattle.nodelet_core.specs.Nodes.{Setup}
-use Rattle.sim_core.specs.Core.{Core}
-use Rattle.sim_core.specs.Counted.{traffic_in}
-use Rattle.sim_core.specs.CoreEnd.{end_in_core}
+use Rattle.core_model.specs.Nodes.{Setup}
+use Rattle.core_model.specs.Core.{Core}
+use Rattle.core_model.specs.Counted.{traffic_in}
+use Rattle.core_model.specs.CoreEnd.{end_in_core}
 
 -- The word of each nodelet at each address.
 abbrev pub cells_in : Core → ℕ → ℤ → ℤ

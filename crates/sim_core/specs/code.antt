@@ -1,3 +1,5 @@
 pub mod Links
 pub mod Numbered
 pub mod Named
+pub mod Earlier
+pub mod CountedUpTo

@@ -6,7 +6,7 @@ ghost use Rattle.threadlet_code.specs.declared.code.Code.{Code};
 ghost use Rattle.merge_law.specs.Machine.{last_stamp};
 ghost use Rattle.word_ops.specs.declared.ending.End.TheVariants.{Spent};
 ghost use Rattle.sim_core.specs.code.Earlier.{earlier_of};
-ghost use Rattle.sim_core.specs.CoreEnd.{earliest, kept_traps, lacks_turn_at, end_in_core};
+ghost use Rattle.core_model.specs.CoreEnd.{earliest, kept_traps, lacks_turn_at, end_in_core};
 ghost use Rattle.sim_core.specs.Kept.{setup_in, core_in, core_fits};
 
 use crate::machine::Core;

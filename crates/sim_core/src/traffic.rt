@@ -3,7 +3,7 @@
 ghost use Rattle.std.specs.Prelude.{◌≡◌, ◌<◌, ◌++◌, ℕ, map, length, flat_map, OnOk, IfOk};
 ghost use Rattle.word_ops.specs.Report.{below};
 ghost use Rattle.threadlet_code.specs.declared.code.Code.{Code};
-ghost use Rattle.sim_core.specs.Counted.{by_pairs, traffic_in};
+ghost use Rattle.core_model.specs.Counted.{by_pairs, traffic_in};
 ghost use Rattle.sim_core.specs.Kept.{setup_in, core_in};
 
 use crate::machine::Core;

@@ -8,12 +8,12 @@ use Rattle.merge_law.specs.declared.event.Event.{Event}
 use Rattle.merge_law.specs.Core.{Played}
 use Rattle.merge_law.specs.Merge.{steps_of, entries_of}
 use Rattle.threadlet_code.specs.declared.code.Code.{Code}
-use Rattle.nodelet_core.specs.Nodes.{Setup, Node}
-use Rattle.nodelet_core.specs.Machine.{Packet}
+use Rattle.core_model.specs.Nodes.{Setup, Node}
+use Rattle.core_model.specs.Machine.{Packet}
 use Rattle.sim_core.specs.declared.machine.Core.{Core as Kept}
-use Rattle.sim_core.specs.Core.{Core, start_core, legal_events}
+use Rattle.core_model.specs.Core.{Core, start_core, legal_events}
 use Rattle.sim_core.specs.Kept.{setup_in, core_in}
-use Rattle.sim_core.specs.Laws.{IsPlayed}
+use Rattle.core_model.specs.Laws.{IsPlayed}
 use Rattle.sim_core.specs.Advanced.{HasAdvanced, entries_at}
 use Rattle.serial_sim.specs.Schedule.{generator_of, picked, has_trapped, IsPicked}
 

@@ -2,7 +2,7 @@
 use Rattle.std.specs.Prelude.{◌≡◌, ℕ, map, flat_map}
 use Rattle.word_ops.specs.declared.traffic.Traffic.{Traffic}
 use Rattle.word_ops.specs.Report.{below}
-use Rattle.sim_core.specs.Core.{Core}
+use Rattle.core_model.specs.Core.{Core}
 
 -- What each nodelet before a number has counted, but for moves.
 pub record IsCountedUpTo (n : ℕ) (c : Core) (k : ℕ) (t : Traffic) : Type 0 where

@@ -1,7 +1,7 @@
 -- The earlier of traps.
 use Rattle.std.specs.Prelude.{Option, Some, None, if◌then◌else◌}
-use Rattle.nodelet_core.specs.declared.trapped.Trapped.{Trapped}
-use Rattle.sim_core.specs.CoreEnd.{is_earlier}
+use Rattle.core_model.specs.declared.trapped.Trapped.{Trapped}
+use Rattle.core_model.specs.CoreEnd.{is_earlier}
 
 -- The earlier of two traps, the first where they are alike.
 abbrev pub earlier_of : Option Trapped → Option Trapped → Option Trapped

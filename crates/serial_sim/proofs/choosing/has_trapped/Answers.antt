@@ -5,7 +5,7 @@ use Rattle.word_ops.specs.Report.{below}
 use Rattle.threadlet_code.specs.declared.code.Code.{Code}
 use Rattle.sim_core.specs.Kept.{core_in}
 use Rattle.sim_core.proofs.Legal.{node_there}
-use Rattle.sim_core.proofs.Finding.{any_below}
+use Rattle.core_model.proofs.NotStuck.Finds.{any_below}
 use Rattle.serial_sim.proofs.choosing.has_trapped.Goals as goal
 
 -- one number more

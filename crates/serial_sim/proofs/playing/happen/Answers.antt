@@ -13,7 +13,7 @@ returns-clause-ok c =
     let advanced = c.in_ok-event.ensures.ok in
     let k = nodelet_of c.args.event in
     let last : entries_at c.event.new.self k ≡ entries_at c.args.core.now k ++ advanced.left.entry.entry ∷ [] =
-        advanced.entries k ∙ ap (λ b. entries_at c.args.core.now k ++ (if b then advanced.left.entry.entry ∷ [] else [])) (same_number k) in
+    advanced.entries k ∙ ap (λ b. entries_at c.args.core.now k ++ (if b then advanced.left.entry.entry ∷ [] else [])) (same_number k) in
     let step = c.last_step.ensures (entries_at c.args.core.now k) advanced.left.entry.entry (ap (entries_at c.event.new.self) c.nodelet_of.ensures ∙ last) in
     let P : Option Step → List Step = λ s. c.args.told.now ++ option_to_list s in
     on_ok_weaker c.tell.result (λ told. record { advanced = advanced; told = told ∙ ap P step }) c.tell.ensures

@@ -23,6 +23,6 @@ pub returns : goal.returns
 returns c = λ before entry is.
     let same : c.entries-entries.result.now ≡ before ++ entry ∷ [] = c.entries-entries.ensures ∙ ap entries_in (sym c.node.ensures) ∙ is in
     let here : Some c.at.result.now ≡ Some entry =
-        sym c.at.ensures ∙ ap (λ n. slice_get c.entries-entries.result.now (n - 1)) c.len.ensures ∙ ap (λ (l : List Entry). slice_get l (length l - 1)) same ∙ last before entry in
+    sym c.at.ensures ∙ ap (λ n. slice_get c.entries-entries.result.now (n - 1)) c.len.ensures ∙ ap (λ (l : List Entry). slice_get l (length l - 1)) same ∙ last before entry in
     let P : Option Entry → Option Step = λ o. option_and_then (λ (e : Entry). e.step) o in
     ap P here

@@ -3,10 +3,10 @@ use Rattle.rand_pcg.specs.Lcg.{Lcg}
 use Rattle.rand_pcg.specs.Pcg.{pcg32}
 use Rattle.word_ops.specs.declared.step.Step.{Step}
 use Rattle.merge_law.specs.declared.event.Event.{Event}
-use Rattle.nodelet_core.specs.Nodes.{Setup}
-use Rattle.sim_core.specs.Core.{start_core}
+use Rattle.core_model.specs.Nodes.{Setup}
+use Rattle.core_model.specs.Core.{start_core}
 use Rattle.sim_core.specs.Kept.{setup_in, core_in}
-use Rattle.sim_core.specs.Numbered.{setup_with}
+use Rattle.sim_core.specs.code.Numbered.{setup_with}
 use Rattle.serial_sim.specs.Schedule.{picked, has_trapped}
 use Rattle.serial_sim.specs.code.Going.{IsChosen, IsGoing}
 use Rattle.serial_sim.proofs.GoesFurther.{reached, goes_from_start, goes_further, goes_down}
@@ -47,9 +47,9 @@ loop-told-preserved c =
     let u = setup_with c.args.code.now.code c.args.n c.args.turns c.args.rules in
     let going = c.loop-told.invariant.going in
     let on : has_trapped u (core_in c.args.code.now.code c.loop-told.core) ≡ false =
-        ap (λ (v : Setup). has_trapped v (core_in c.args.code.now.code c.loop-told.core)) (sym going.setup) ∙ chosen.0 in
+    ap (λ (v : Setup). has_trapped v (core_in c.args.code.now.code c.loop-told.core)) (sym going.setup) ∙ chosen.0 in
     let pick : picked u (core_in c.args.code.now.code c.loop-told.core) (pcg32 c.loop-told.generator).0 ≡ Some c.in-Some.event =
-        ap (λ (v : Setup). picked v (core_in c.args.code.now.code c.loop-told.core) (pcg32 c.loop-told.generator).0) (sym going.setup) ∙ chosen.1 in
+    ap (λ (v : Setup). picked v (core_in c.args.code.now.code c.loop-told.core) (pcg32 c.loop-told.generator).0) (sym going.setup) ∙ chosen.1 in
     let further = goes_further c.args.code.now.code c.args.seed u c.loop-told.core c.happen.new.core c.loop-told.generator c.loop-told.told c.in-Some.event going happened.advanced on pick in
     let P : Lcg → Type 0 = λ g. IsGoing c.args.code.now.code c.args.seed u c.happen.new.core g c.happen.new.told in
     let Q : List Step → Type 0 = λ told. IsGoing c.args.code.now.code c.args.seed u c.happen.new.core (pcg32 c.loop-told.generator).1 told in

@@ -1,7 +1,7 @@
 use Rattle.std.proofs.Common.{◌≡◌, true}
-use Rattle.sim_core.specs.Numbered.{setup_with}
+use Rattle.sim_core.specs.code.Numbered.{setup_with}
 use Rattle.sim_core.specs.Kept.{core_in, core_fits}
-use Rattle.sim_core.specs.Rank.{rank}
+use Rattle.core_model.specs.Rank.{rank}
 use Rattle.serial_sim.specs.code.Going.{IsGoing}
 use Rattle.serial_sim.proofs.playing.play_out.Given as goal
 

@@ -1,7 +1,7 @@
 use Rattle.std.proofs.Common.{◌≡◌, ◌++◌, ◌∷◌, [], ◌<◌, length, ℕ, List, ap, ◌∙◌, sym, arith, append_assoc, map, refl}
 use Rattle.std.specs.Prelude.{slice_index}
 use Rattle.word_ops.specs.Report.{below}
-use Rattle.nodelet_core.specs.Nodes.{Node}
+use Rattle.core_model.specs.Nodes.{Node}
 use Rattle.sim_core.specs.Kept.{core_in}
 use Rattle.sim_core.proofs.Legal.{node_there, numbered_there}
 use Rattle.sim_core.proofs.TallyLists.{map_more, counted_there}
@@ -20,7 +20,7 @@ loop-j-preserved c = λ code.
     let f : ℕ → ℕ = λ j. ((core_in code c.args.self.now).nodes j).tallies.moves c.args.i in
     let read : Node → ℕ → ℕ = λ w. w.tallies.moves in
     let x = counted_there code c.args.self.now c.loop-j.j c.node.result.now c.node.ensures read c.tally.result.now.moves c.args.i c.at.result.now
-        (ap read (node_there code c.args.self.now c.loop-j.j c.node.result.now c.node.ensures) ∙ ap (λ (t : _). slice_index t.moves) (sym c.tally.ensures)) c.at.ensures in
+    (ap read (node_there code c.args.self.now c.loop-j.j c.node.result.now c.node.ensures) ∙ ap (λ (t : _). slice_index t.moves) (sym c.tally.ensures)) c.at.ensures in
     c.in_ok-add.ensures.ok ∙ ap (λ l. l ++ c.at.result.now ∷ []) (c.loop-j.invariant code) ∙ append_assoc c.args.counts.now (map f (below c.loop-j.j)) (c.at.result.now ∷ [])
     ∙ ap (λ l. c.args.counts.now ++ l) (ap (λ y. map f (below c.loop-j.j) ++ y ∷ []) x ∙ sym (map_more f c.loop-j.j))
 

@@ -2,7 +2,7 @@ use Rattle.std.proofs.Common.{◌≡◌, ap, ◌∙◌, sym, arith, ℕ}
 use Rattle.std.specs.Prelude.{filter_map}
 use Rattle.word_ops.specs.Report.{below}
 use Rattle.sim_core.specs.Kept.{core_in}
-use Rattle.sim_core.specs.CoreEnd.{earliest}
+use Rattle.core_model.specs.CoreEnd.{earliest}
 use Rattle.sim_core.specs.code.Earlier.{earlier_of}
 use Rattle.sim_core.proofs.Legal.{node_there}
 use Rattle.sim_core.proofs.FirstOnes.{earliest_more}

@@ -3,7 +3,7 @@ use Rattle.std.specs.Prelude.{filter_map}
 use Rattle.word_ops.specs.Report.{below}
 use Rattle.threadlet_code.specs.declared.code.Code.{Code}
 use Rattle.sim_core.specs.Kept.{core_in}
-use Rattle.sim_core.specs.CoreEnd.{earliest}
+use Rattle.core_model.specs.CoreEnd.{earliest}
 use Rattle.sim_core.proofs.machine.Core.earliest_trap.Given as goal
 
 abbrev pub invariant-loop-k : goal.invariant-loop-k

@@ -4,7 +4,7 @@ use Rattle.std.specs.Option.{option_or}
 use Rattle.word_ops.specs.declared.ending.End.{End}
 use Rattle.word_ops.specs.declared.ending.End.TheVariants.{Done, Spent}
 use Rattle.word_ops.specs.declared.ending.SpentCause.TheVariants.{Turns, Stamps}
-use Rattle.sim_core.specs.CoreEnd.{end_by, trap_end, value_end, stamps_end, turns_end}
+use Rattle.core_model.specs.CoreEnd.{end_by, trap_end, value_end, stamps_end, turns_end}
 use Rattle.sim_core.specs.Kept.{setup_in, core_in}
 use Rattle.sim_core.proofs.machine.Core.end.Goals as goal
 

@@ -2,7 +2,7 @@ use Rattle.std.proofs.Common.{◌≡◌, ◌++◌, ◌∷◌, [], ℕ, List, ap,
 use Rattle.std.specs.Prelude.{flat_map, slice_index}
 use Rattle.word_ops.specs.Report.{below}
 use Rattle.word_ops.specs.declared.traffic.Traffic.{Traffic}
-use Rattle.nodelet_core.specs.Nodes.{Node}
+use Rattle.core_model.specs.Nodes.{Node}
 use Rattle.sim_core.specs.Kept.{core_in}
 use Rattle.sim_core.specs.code.CountedUpTo.{IsCountedUpTo}
 use Rattle.sim_core.proofs.Legal.{node_there, numbered_there}

@@ -2,7 +2,7 @@ use Rattle.std.proofs.Common.{◌≡◌, ◌<◌, ap, ◌∙◌, sym, arith, ℕ
 use Rattle.std.specs.Prelude.{find}
 use Rattle.word_ops.specs.Report.{below}
 use Rattle.sim_core.specs.Kept.{core_in, setup_in}
-use Rattle.sim_core.specs.CoreEnd.{lacks_turn_at}
+use Rattle.core_model.specs.CoreEnd.{lacks_turn_at}
 use Rattle.sim_core.proofs.Legal.{node_there, fits_there}
 use Rattle.sim_core.proofs.FirstOnes.{found, none_found_more, lacks_there}
 use Rattle.sim_core.proofs.machine.Core.without_turns.Goals as goal

@@ -1,7 +1,7 @@
 use Rattle.std.proofs.Common.{◌≡◌, length}
 use Rattle.std.specs.Prelude.{true}
 use Rattle.std.specs.List.{list_all}
-use Rattle.sim_core.specs.Links.{is_clear}
+use Rattle.sim_core.specs.code.Links.{is_clear}
 use Rattle.sim_core.proofs.outgoing.Outgoing.new.Given as goal
 
 abbrev pub invariant-loop : goal.invariant-loop
