@@ -2,44 +2,36 @@
 use Rattle.std.specs.Prelude.{ℕ, suc, ◌+◌, List, [], length, map, sum}
 use Rattle.cilk_ast.specs.declared.program.Function.{Function}
 use Rattle.cilk_ast.specs.Parts.{expressions_of}
-use Rattle.cilk_ast.specs.declared.program.Expr.{Expr, Un', Bin', Both', Either', Load', Call', Post', Add', Swap', Cas', Init', Move', Print', Alloc', Row_of-Expr as Args, end_of-Expr as no_args, more_of-Expr as more_args}
+use Rattle.cilk_ast.specs.declared.program.Expr.{Expr, Word, Slot, Call', Fence, Where, Print', Alloc', Row_of-Expr as Args, end_of-Expr as no_args, more_of-Expr as more_args}
+use Rattle.cilk_ast.specs.Expression.{Un, Bin, Both, Either, Load, Post, Add, Swap, Cas, Init, Move}
 use Rattle.cilk_ast.specs.declared.program.Stmt.{Stmt, Block', Each, Row_of-Stmt as Stmts, end_of-Stmt as no_stmts, more_of-Stmt as more_stmts}
 use Rattle.cilk_ast.specs.Statement.{If, Loop}
 
--- The expressions in an expression, itself and its arguments included. Two tables tell it, one of the forms
--- that compute and one of those that access memory: for a form of the other table, each goes on with what it is
--- given.
+-- The expressions in an expression, itself and its arguments included.
 abbrev mutual
-  pub computation_nodes : Expr → ℕ → ℕ
-  computation_nodes (Un' at op _ inner) other = suc (part_nodes inner)
-  computation_nodes (Bin' at op _ left _ right) other = suc (part_nodes left + part_nodes right)
-  computation_nodes (Both' at _ left _ right) other = suc (part_nodes left + part_nodes right)
-  computation_nodes (Either' at _ left _ right) other = suc (part_nodes left + part_nodes right)
-  computation_nodes (Call' at function n args) other = suc (argument_nodes args)
-  computation_nodes (Print' format n args) other = suc (argument_nodes args)
-  computation_nodes (Alloc' at which n args) other = suc (argument_nodes args)
-  computation_nodes _ other = other
-
-  pub access_nodes : Expr → ℕ → ℕ
-  access_nodes (Load' at _ address) other = suc (part_nodes address)
-  access_nodes (Post' at op _ address _ value) other = suc (part_nodes address + part_nodes value)
-  access_nodes (Add' at _ address _ value) other = suc (part_nodes address + part_nodes value)
-  access_nodes (Swap' at _ address _ value) other = suc (part_nodes address + part_nodes value)
-  access_nodes (Cas' at _ address _ expected _ value) other = suc (part_nodes address + part_nodes expected + part_nodes value)
-  access_nodes (Init' at _ address _ value) other = suc (part_nodes address + part_nodes value)
-  access_nodes (Move' at _ address) other = suc (part_nodes address)
-  access_nodes _ other = other
-
-  pub part_nodes : {n : _} → Args n → ℕ
-  part_nodes no_args = 0
-  part_nodes (more_args part _) = computation_nodes part (access_nodes part 1)
+  pub expression_nodes : Expr → ℕ
+  expression_nodes (Word word) = 1
+  expression_nodes (Slot slot) = 1
+  expression_nodes (Un at op inner) = suc (expression_nodes inner)
+  expression_nodes (Bin at op left right) = suc (expression_nodes left + expression_nodes right)
+  expression_nodes (Both at left right) = suc (expression_nodes left + expression_nodes right)
+  expression_nodes (Either at left right) = suc (expression_nodes left + expression_nodes right)
+  expression_nodes (Load at address) = suc (expression_nodes address)
+  expression_nodes (Call' at function n args) = suc (argument_nodes args)
+  expression_nodes (Post at op address value) = suc (expression_nodes address + expression_nodes value)
+  expression_nodes (Add at address value) = suc (expression_nodes address + expression_nodes value)
+  expression_nodes (Swap at address value) = suc (expression_nodes address + expression_nodes value)
+  expression_nodes (Cas at address expected value) = suc (expression_nodes address + expression_nodes expected + expression_nodes value)
+  expression_nodes (Init at address value) = suc (expression_nodes address + expression_nodes value)
+  expression_nodes Fence = 1
+  expression_nodes (Move at address) = suc (expression_nodes address)
+  expression_nodes Where = 1
+  expression_nodes (Print' format n args) = suc (argument_nodes args)
+  expression_nodes (Alloc' at which n args) = suc (argument_nodes args)
 
   pub argument_nodes : {n : _} → Args n → ℕ
   argument_nodes no_args = 0
-  argument_nodes (more_args arg rest) = computation_nodes arg (access_nodes arg 1) + argument_nodes rest
-
-abbrev pub expression_nodes : Expr → ℕ
-expression_nodes e = computation_nodes e (access_nodes e 1)
+  argument_nodes (more_args arg rest) = expression_nodes arg + argument_nodes rest
 
 -- The slots that a statement copies.
 abbrev pub copies_of : Stmt → List ℕ

@@ -1,44 +1,36 @@
 -- What holds of each part of a program.
 use Rattle.std.specs.Prelude.{Bool, true, ◌&&◌, List, [], ◌∷◌, Some, None}
-use Rattle.cilk_ast.specs.declared.program.Expr.{Expr, Un', Bin', Both', Either', Load', Call', Post', Add', Swap', Cas', Init', Move', Print', Alloc', Row_of-Expr as Args, end_of-Expr as no_args, more_of-Expr as more_args}
+use Rattle.cilk_ast.specs.declared.program.Expr.{Expr, Word, Slot, Call', Fence, Where, Print', Alloc', Row_of-Expr as Args, end_of-Expr as no_args, more_of-Expr as more_args}
+use Rattle.cilk_ast.specs.Expression.{Un, Bin, Both, Either, Load, Post, Add, Swap, Cas, Init, Move}
 use Rattle.cilk_ast.specs.declared.program.Stmt.{Stmt, Block', Eval, Set, Store, AddTo, Spawn, Each, Return, Row_of-Stmt as Stmts, end_of-Stmt as no_stmts, more_of-Stmt as more_stmts}
 use Rattle.cilk_ast.specs.Statement.{If, Loop}
 
--- Each expression in an expression, itself included, has a property. Two tables tell it, one of the forms that
--- compute and one of those that access memory: for a form of the other table, each goes on with what it is
--- given. A part stands in a box, which is a row of one.
+-- Each expression in an expression, itself included, has a property.
 module _ (has : Expr → Bool) where
   abbrev mutual
-    pub in_computation : Expr → Bool → Bool
-    in_computation (Un' at op _ inner) other = has (Un' at op _ inner) && in_part inner
-    in_computation (Bin' at op _ left _ right) other = has (Bin' at op _ left _ right) && in_part left && in_part right
-    in_computation (Both' at _ left _ right) other = has (Both' at _ left _ right) && in_part left && in_part right
-    in_computation (Either' at _ left _ right) other = has (Either' at _ left _ right) && in_part left && in_part right
-    in_computation (Call' at function n args) other = has (Call' at function n args) && every_arg args
-    in_computation (Print' format n args) other = has (Print' format n args) && every_arg args
-    in_computation (Alloc' at which n args) other = has (Alloc' at which n args) && every_arg args
-    in_computation _ other = other
-
-    pub in_access : Expr → Bool → Bool
-    in_access (Load' at _ address) other = has (Load' at _ address) && in_part address
-    in_access (Post' at op _ address _ value) other = has (Post' at op _ address _ value) && in_part address && in_part value
-    in_access (Add' at _ address _ value) other = has (Add' at _ address _ value) && in_part address && in_part value
-    in_access (Swap' at _ address _ value) other = has (Swap' at _ address _ value) && in_part address && in_part value
-    in_access (Cas' at _ address _ expected _ value) other = has (Cas' at _ address _ expected _ value) && in_part address && in_part expected && in_part value
-    in_access (Init' at _ address _ value) other = has (Init' at _ address _ value) && in_part address && in_part value
-    in_access (Move' at _ address) other = has (Move' at _ address) && in_part address
-    in_access _ other = other
-
-    pub in_part : {n : _} → Args n → Bool
-    in_part no_args = true
-    in_part (more_args part _) = in_computation part (in_access part (has part))
+    pub every : Expr → Bool
+    every (Word word) = has (Word word)
+    every (Slot slot) = has (Slot slot)
+    every (Un at op inner) = has (Un at op inner) && every inner
+    every (Bin at op left right) = has (Bin at op left right) && every left && every right
+    every (Both at left right) = has (Both at left right) && every left && every right
+    every (Either at left right) = has (Either at left right) && every left && every right
+    every (Load at address) = has (Load at address) && every address
+    every (Call' at function n args) = has (Call' at function n args) && every_arg args
+    every (Post at op address value) = has (Post at op address value) && every address && every value
+    every (Add at address value) = has (Add at address value) && every address && every value
+    every (Swap at address value) = has (Swap at address value) && every address && every value
+    every (Cas at address expected value) = has (Cas at address expected value) && every address && every expected && every value
+    every (Init at address value) = has (Init at address value) && every address && every value
+    every Fence = has Fence
+    every (Move at address) = has (Move at address) && every address
+    every Where = has Where
+    every (Print' format n args) = has (Print' format n args) && every_arg args
+    every (Alloc' at which n args) = has (Alloc' at which n args) && every_arg args
 
     pub every_arg : {n : _} → Args n → Bool
     every_arg no_args = true
-    every_arg (more_args arg rest) = in_computation arg (in_access arg (has arg)) && every_arg rest
-
-  abbrev pub every : Expr → Bool
-  every e = in_computation e (in_access e (has e))
+    every_arg (more_args arg rest) = every arg && every_arg rest
 
 -- Each statement in a statement, itself included, has a property.
 module _ (has : Stmt → Bool) where

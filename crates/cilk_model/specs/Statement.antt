@@ -4,7 +4,7 @@ use Rattle.std.specs.Int.{w64, int_wrapping_add}
 use Rattle.word_ops.specs.declared.place.Pos.{Pos}
 use Rattle.mem_atomics.specs.declared.op.Op.TheVariants as op
 use Rattle.cilk_ast.specs.declared.program.Expr.{Expr}
-use Rattle.cilk_ast.specs.declared.program.Stmt.{Stmt, Block', Eval, Set, Store, AddTo, Spawn, Each, Break, Continue, Return, Sync, Row_of-Stmt as Stmts, end_of-Stmt as no_stmts, more_of-Stmt as more_stmts}
+use Rattle.cilk_ast.specs.declared.program.Stmt.{Stmt, Nothing, Block', Eval, Set, Store, AddTo, Spawn, Each, Break, Continue, Return, Sync, Row_of-Stmt as Stmts, end_of-Stmt as no_stmts, more_of-Stmt as more_stmts}
 use Rattle.cilk_ast.specs.Statement.{If, Loop}
 use Rattle.world_model.specs.Action as act
 use Rattle.world_model.specs.Action.{Hint}
@@ -82,28 +82,24 @@ deals call depth low high function copies next fuel =
 -- An activation at a depth: how it calls, whether its function spawns, how many turns its loops can have, and
 -- what is done with what it returns.
 module _ (call : Calling) (depth : ℕ) (spawns : Bool) (fuel : ℕ) (done : ℤ → Acts) where
-  -- What a statement without statements in it does. For one with some it is what is given to follow it.
-  abbrev pub does_simply : Stmt → Flow → Flow → Flow → Flow
-  does_simply (Eval e) next broken continued = evaluates call e (λ _. next)
-  does_simply (Set slot e) next broken continued = evaluates call e (λ x slots. next (slice_set slots slot x))
-  does_simply (Store at address e) next broken continued = evaluates call address (λ a. evaluates call e (λ v slots targets. stores at a v (next slots targets)))
-  does_simply (AddTo at address e) next broken continued = evaluates call address (λ a. adds call at a e next)
-  does_simply (Spawn at target function hint args) next broken continued = starts call depth at target function hint args next
-  does_simply (Each at low high function copies) next broken continued = deals call depth low high function copies next fuel
-  does_simply Break next broken continued = broken
-  does_simply Continue next broken continued = continued
-  does_simply (Return e) next broken continued = evaluates call e (returns depth spawns done)
-  does_simply Sync next broken continued = syncs depth next
-  does_simply _ next broken continued = next
-
   abbrev mutual
-    -- Runs a statement, given what follows it, a break and a continue.
+    -- Runs a statement: a case for each form, given what follows it, a break and a continue.
     pub runs : Stmt → Flow → Flow → Flow → Flow
+    runs Nothing next broken continued = next
     runs (Block' n body) next broken continued = runs_all body next broken continued
+    runs (Eval e) next broken continued = evaluates call e (λ _. next)
+    runs (Set slot e) next broken continued = evaluates call e (λ x slots. next (slice_set slots slot x))
+    runs (Store at address e) next broken continued = evaluates call address (λ a. evaluates call e (λ v slots targets. stores at a v (next slots targets)))
+    runs (AddTo at address e) next broken continued = evaluates call address (λ a. adds call at a e next)
+    runs (Spawn at target function hint args) next broken continued = starts call depth at target function hint args next
     runs (If test yes_ no_) next broken continued = chooses call test (runs yes_ next broken continued) (runs no_ next broken continued)
     runs (Loop test step body) next broken continued =
         repeats (value call test) (λ again. runs body again next again) (λ again. runs step again broken continued) next fuel
-    runs simple next broken continued = does_simply simple next broken continued
+    runs (Each at low high function copies) next broken continued = deals call depth low high function copies next fuel
+    runs Break next broken continued = broken
+    runs Continue next broken continued = continued
+    runs (Return e) next broken continued = evaluates call e (returns depth spawns done)
+    runs Sync next broken continued = syncs depth next
 
     pub runs_all : {n : _} → Stmts n → Flow → Flow → Flow → Flow
     runs_all no_stmts next broken continued = next

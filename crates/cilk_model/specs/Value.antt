@@ -9,7 +9,8 @@ use Rattle.word_ops.specs.Formats.{printed}
 use Rattle.mem_atomics.specs.declared.fetch_op.FetchOp.TheVariants as fetch
 use Rattle.cilk_ast.specs.declared.builtin.Builtin.{Builtin}
 use Rattle.cilk_ast.specs.declared.builtin.Builtin.TheVariants as built
-use Rattle.cilk_ast.specs.declared.program.Expr.{Expr, Word, Slot, Un', Bin', Both', Either', Load', Call', Post', Add', Swap', Cas', Init', Fence, Move', Where, Print', Alloc', Row_of-Expr as Args, end_of-Expr as no_args, more_of-Expr as more_args}
+use Rattle.cilk_ast.specs.declared.program.Expr.{Expr, Word, Slot, Call', Fence, Where, Print', Alloc', Row_of-Expr as Args, end_of-Expr as no_args, more_of-Expr as more_args}
+use Rattle.cilk_ast.specs.Expression.{Un, Bin, Both, Either, Load, Post, Add, Swap, Cas, Init, Move}
 use Rattle.world_model.specs.Action as act
 use Rattle.world_model.specs.Meaning.{Acts, make, word_of}
 use Rattle.world_model.specs.Action.{Action, Request, Answers}
@@ -18,10 +19,6 @@ use Rattle.world_model.specs.Activation.{Slots, word_at}
 -- A trap is the strand's last action.
 abbrev pub traps : Pos → TrapKind → Acts
 traps at kind answers = act.Trap at kind ∷ []
-
--- A form of neither table below makes no action; there is none.
-abbrev pub nothing : Acts
-nothing answers = []
 
 -- What a call does: it stands at a place, calls a function on arguments, and goes on with what that returns.
 abbrev pub Calling : Type 0
@@ -58,49 +55,32 @@ judged next word = next (truth_of (is_true word))
 module _ (call : Calling) where
   abbrev mutual
     -- Evaluates an expression over slots, and goes on with its value: a line for each form. What is named
-    -- first is evaluated first, and then the form's own action is made. Two tables tell it: this is that of the
-    -- forms that compute, and what the other table tells is given.
-    pub computation : Expr → Slots → (ℤ → Acts) → Acts → Acts
-    computation (Word word) slots next other = next word
-    computation (Slot slot) slots next other = next (word_at slots slot)
-    computation (Un' at op _ inner) slots next other = part inner slots (λ x. next (unary_of op x))
-    computation (Bin' at op _ left _ right) slots next other = part left slots (λ x. part right slots (λ y. divided at (binary_of op x y) next))
-    computation (Both' at _ left _ right) slots next other = part left slots (λ x. if is_true x then part right slots (judged next) else next (pos 0))
-    computation (Either' at _ left _ right) slots next other = part left slots (λ x. if is_true x then next (pos 1) else part right slots (judged next))
-    computation (Call' at function n args) slots next other = values args slots (λ words. call at function words next)
-    computation (Print' format n args) slots next other = values args slots (λ words. does (act.Print (printed format words)) next)
-    computation (Alloc' at which n args) slots next other = values args slots (λ words. asks (act.Alloc (request_of at which words)) next)
-    computation _ slots next other = other
-
-    -- The table of the forms that access memory and places.
-    pub access : Expr → Slots → (ℤ → Acts) → Acts → Acts
-    access (Load' at _ address) slots next other = part address slots (λ a. asks (act.Load at a) next)
-    access (Post' at op _ address _ word) slots next other = part address slots (λ a. part word slots (λ v. does (act.Issue at op a v) next))
-    access (Add' at _ address _ word) slots next other = part address slots (λ a. part word slots (λ v. asks (act.Fetch at (fetch.Add v) a) next))
-    access (Swap' at _ address _ word) slots next other = part address slots (λ a. part word slots (λ v. asks (act.Fetch at (fetch.Swap v) a) next))
-    access (Cas' at _ address _ expected _ word) slots next other =
-        part address slots (λ a. part expected slots (λ x. part word slots (λ v. asks (act.Fetch at (fetch.Cas x v) a) next)))
-    access (Init' at _ address _ word) slots next other = part address slots (λ a. part word slots (λ v. does (act.Init at a v) next))
-    access Fence slots next other = does act.Fence next
-    access (Move' at _ address) slots next other = part address slots (λ a. does (act.Move at a) next)
-    access Where slots next other = asks act.Where next
-    access _ slots next other = other
-
-    -- Evaluates a part of an expression, which stands in a box, a row of one.
-    pub part : {n : _} → Args n → Slots → (ℤ → Acts) → Acts
-    part no_args slots next = next (pos 0)
-    part (more_args e _) slots next = computation e slots next (access e slots next nothing)
+    -- first is evaluated first, and then the form's own action is made.
+    pub value : Expr → Slots → (ℤ → Acts) → Acts
+    value (Word word) slots next = next word
+    value (Slot slot) slots next = next (word_at slots slot)
+    value (Un at op inner) slots next = value inner slots (λ x. next (unary_of op x))
+    value (Bin at op left right) slots next = value left slots (λ x. value right slots (λ y. divided at (binary_of op x y) next))
+    value (Both at left right) slots next = value left slots (λ x. if is_true x then value right slots (judged next) else next (pos 0))
+    value (Either at left right) slots next = value left slots (λ x. if is_true x then next (pos 1) else value right slots (judged next))
+    value (Load at address) slots next = value address slots (λ a. asks (act.Load at a) next)
+    value (Post at op address word) slots next = value address slots (λ a. value word slots (λ v. does (act.Issue at op a v) next))
+    value (Add at address word) slots next = value address slots (λ a. value word slots (λ v. asks (act.Fetch at (fetch.Add v) a) next))
+    value (Swap at address word) slots next = value address slots (λ a. value word slots (λ v. asks (act.Fetch at (fetch.Swap v) a) next))
+    value (Cas at address expected word) slots next =
+        value address slots (λ a. value expected slots (λ x. value word slots (λ v. asks (act.Fetch at (fetch.Cas x v) a) next)))
+    value (Init at address word) slots next = value address slots (λ a. value word slots (λ v. does (act.Init at a v) next))
+    value Fence slots next = does act.Fence next
+    value (Move at address) slots next = value address slots (λ a. does (act.Move at a) next)
+    value Where slots next = asks act.Where next
+    value (Call' at function n args) slots next = values args slots (λ words. call at function words next)
+    value (Print' format n args) slots next = values args slots (λ words. does (act.Print (printed format words)) next)
+    value (Alloc' at which n args) slots next = values args slots (λ words. asks (act.Alloc (request_of at which words)) next)
 
     -- Evaluates arguments from left to right, and goes on with their values.
     pub values : {n : _} → Args n → Slots → (List ℤ → Acts) → Acts
     values no_args slots next = next []
-    values (more_args arg rest) slots next =
-        let go_on : ℤ → Acts = λ x. values rest slots (λ words. next (x ∷ words)) in
-        computation arg slots go_on (access arg slots go_on nothing)
-
-  -- Evaluates an expression over slots, and goes on with its value.
-  abbrev pub value : Expr → Slots → (ℤ → Acts) → Acts
-  value e slots next = computation e slots next (access e slots next nothing)
+    values (more_args arg rest) slots next = value arg slots (λ x. values rest slots (λ words. next (x ∷ words)))
 
   -- The same for arguments in a list.
   abbrev pub values_of : List Expr → Slots → (List ℤ → Acts) → Acts

@@ -30,11 +30,14 @@ pub record Hint : Type 0 where
 --   Sync d                  joins the children of the activation at depth d
 --   End v, Trap at kind     the last action of a strand
 pub data Action : Type 0 where
-  Turn Fence Where : Action
-  Load Move : Pos → ℤ → Action
+  Turn : Action
+  Load : Pos → ℤ → Action
   Issue : Pos → Op → ℤ → ℤ → Action
   Fetch : Pos → FetchOp → ℤ → Action
   Init : Pos → ℤ → ℤ → Action
+  Fence : Action
+  Move : Pos → ℤ → Action
+  Where : Action
   Print : List ℕ → Action
   Alloc : Request → Action
   Spawn : ℕ → ℕ → List ℤ → Option Hint → Action
@@ -49,23 +52,38 @@ Answers = List (List ℤ)
 -- How many words answer an action, where the activation at each depth has so many children to join.
 -- The last action of a strand has no answer.
 abbrev pub answer_length : (ℕ → ℕ) → Action → Option ℕ
+answer_length children Turn = Some 0
 answer_length children (Load _ _) = Some 1
+answer_length children (Issue _ _ _ _) = Some 0
 answer_length children (Fetch _ _ _) = Some 1
+answer_length children (Init _ _ _) = Some 0
+answer_length children Fence = Some 0
+answer_length children (Move _ _) = Some 0
 answer_length children Where = Some 1
+answer_length children (Print _) = Some 0
 answer_length children (Alloc _) = Some 1
+answer_length children (Spawn _ _ _ _) = Some 0
 answer_length children (Sync d) = Some (children d)
 answer_length children (End _) = None
 answer_length children (Trap _ _) = None
-answer_length children _ = Some 0
 
 -- The place in the text that an action carries, and 0:0 where it carries none.
 abbrev pub pos_of : Action → Pos
+pos_of Turn = record { line = 0; column = 0 }
 pos_of (Load at _) = at
 pos_of (Issue at _ _ _) = at
 pos_of (Fetch at _ _) = at
 pos_of (Init at _ _) = at
+pos_of Fence = record { line = 0; column = 0 }
 pos_of (Move at _) = at
+pos_of Where = record { line = 0; column = 0 }
+pos_of (Print _) = record { line = 0; column = 0 }
+pos_of (Alloc (Striped _)) = record { line = 0; column = 0 }
+pos_of (Alloc (Blocked _ _)) = record { line = 0; column = 0 }
 pos_of (Alloc (Local at _ _)) = at
+pos_of (Alloc (Replicated _)) = record { line = 0; column = 0 }
+pos_of (Spawn _ _ _ None) = record { line = 0; column = 0 }
 pos_of (Spawn _ _ _ (Some hint)) = hint.pos
+pos_of (Sync _) = record { line = 0; column = 0 }
+pos_of (End _) = record { line = 0; column = 0 }
 pos_of (Trap at _) = at
-pos_of _ = record { line = 0; column = 0 }

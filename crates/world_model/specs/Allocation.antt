@@ -7,8 +7,10 @@ use Rattle.world_model.specs.Action.{Request, Striped, Blocked, Local, Replicate
 
 -- The nodelet of n that serves a request: the owner of the address of a local one, else nodelet 0.
 abbrev pub server_of : ℕ → ℕ → Request → ℕ
+server_of n here (Striped _) = 0
+server_of n here (Blocked _ _) = 0
 server_of n here (Local _ _ address) = owner_of address here n
-server_of n here _ = 0
+server_of n here (Replicated _) = 0
 
 -- The view whose blocks have so many words: there is one for each power of two from 1 to 2^20.
 abbrev pub block_view : ℤ → Option ℕ

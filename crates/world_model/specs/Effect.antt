@@ -12,7 +12,7 @@ use Rattle.mem_atomics.specs.declared.fetch_op.FetchOp.{FetchOp}
 use Rattle.mem_atomics.specs.NewWord.{applied, fetched}
 use Rattle.data_layout.specs.Address.{owner_of}
 use Rattle.data_layout.specs.Cursor.{allocated_at, cursors_after}
-use Rattle.world_model.specs.Action.{Action, Turn, Load, Issue, Fetch, Init, Fence, Move, Where, Print, Alloc, Spawn, Sync, End, Trap, Request, Local, Hint}
+use Rattle.world_model.specs.Action.{Action, Turn, Load, Issue, Fetch, Init, Fence, Move, Where, Print, Alloc, Spawn, Sync, End, Trap, Request, Local, Hint, Striped, Blocked, Replicated}
 use Rattle.world_model.specs.Allocation.{server_of, taken_from}
 use Rattle.world_model.specs.Sight.{Sight, place_after}
 use Rattle.world_model.specs.World.{Setting, Extent, Operation, Grant, Live, Ended, Strand, World, is_empty, is_clear, strand_of, children_at, value_of, with_strand, with_word, with_grant, with_turn, with_piece, with_pending, with_pending_but, with_trap, with_answer}
@@ -76,8 +76,10 @@ with_fresh w k (Some extent) = with_grant w k extent
 -- And at each other nodelet the grant is pending, but for local words.
 abbrev pub announces : ℕ → Strand → ℕ → Request → Option Extent → Strand
 announces n s k request None = s
+announces n s k (Striped _) (Some extent) = with_pending_but n s k (Grant extent)
+announces n s k (Blocked _ _) (Some extent) = with_pending_but n s k (Grant extent)
 announces n s k (Local _ _ _) (Some extent) = s
-announces n s k request (Some extent) = with_pending_but n s k (Grant extent)
+announces n s k (Replicated _) (Some extent) = with_pending_but n s k (Grant extent)
 
 -- A request that takes nothing answers 0, and any other what its view's cursor gives.
 abbrev pub served_with : Setting → World → Name → Strand → Request → Option (ℕ × ℤ) → World
@@ -132,30 +134,37 @@ joined u w name s d =
 
 -- ---- all actions
 
--- The world after an action on words that is done: it reads, changes or takes some.
-abbrev pub memory_effect : Setting → World → Name → Strand → Action → Option World
-memory_effect u w name s (Load at a) = Some (loaded u w name s a)
-memory_effect u w name s (Issue at op a v) = Some (issued u w name s at op a v)
-memory_effect u w name s (Fetch at f a) = Some (exchanged u w name s f a)
-memory_effect u w name s (Init at a v) = Some (initialized u w name s at a v)
-memory_effect u w name s (Alloc request) = Some (served_with u w name s request (taken_from u.nodelets s.place request))
-memory_effect u w name s _ = None
-
 -- The world after an action that names no child.
 abbrev pub own_effect : Setting → World → Name → Strand → Action → Option World
 own_effect u w name s Turn = Some (goes_on (with_turn w s.place) name s s.place [])
+own_effect u w name s (Load at a) = Some (loaded u w name s a)
+own_effect u w name s (Issue at op a v) = Some (issued u w name s at op a v)
+own_effect u w name s (Fetch at f a) = Some (exchanged u w name s f a)
+own_effect u w name s (Init at a v) = Some (initialized u w name s at a v)
 own_effect u w name s Fence = Some (goes_on w name s s.place [])
 own_effect u w name s (Move at a) = Some (goes_on w name s (owner_of a s.place u.nodelets) [])
 own_effect u w name s Where = Some (goes_on w name s s.place (pos s.place ∷ []))
 own_effect u w name s (Print bytes) = Some (goes_on (with_piece w bytes) name s 0 [])
+own_effect u w name s (Alloc request) = Some (served_with u w name s request (taken_from u.nodelets s.place request))
 own_effect u w name s (Spawn _ _ _ _) = None
 own_effect u w name s (Sync d) = Some (joined u w name s d)
 own_effect u w name s (End value) = Some (with_strand w name (record s { status = Ended value }))
 own_effect u w name s (Trap at kind) = Some (with_strand w name (with_trap s s.place kind at))
-own_effect u w name s access = memory_effect u w name s access
 
 -- The world after an action that is done; a child is named for a Spawn alone.
 abbrev pub effect : Setting → World → Name → Strand → Option Name → Action → Option World
+effect u w name s (Some child) Turn = None
+effect u w name s (Some child) (Load _ _) = None
+effect u w name s (Some child) (Issue _ _ _ _) = None
+effect u w name s (Some child) (Fetch _ _ _) = None
+effect u w name s (Some child) (Init _ _ _) = None
+effect u w name s (Some child) Fence = None
+effect u w name s (Some child) (Move _ _) = None
+effect u w name s (Some child) Where = None
+effect u w name s (Some child) (Print _) = None
+effect u w name s (Some child) (Alloc _) = None
 effect u w name s (Some child) (Spawn d function args hint) = spawned u w name s child d function args hint
-effect u w name s (Some child) _ = None
+effect u w name s (Some child) (Sync _) = None
+effect u w name s (Some child) (End _) = None
+effect u w name s (Some child) (Trap _ _) = None
 effect u w name s None action = own_effect u w name s action

@@ -9,7 +9,7 @@ use Rattle.word_ops.specs.Naming.{same_name}
 use Rattle.mem_atomics.specs.declared.op.Op.TheVariants.{Store}
 use Rattle.data_layout.specs.Address.{owner_of}
 use Rattle.data_layout.specs.Cursor.{allocated_at}
-use Rattle.world_model.specs.Action.{Action, Issue, Init, Fence, Alloc, End, Request, Local}
+use Rattle.world_model.specs.Action.{Action, Issue, Init, Fence, Alloc, End, Request, Local, Turn, Load, Fetch, Move, Where, Print, Spawn, Sync, Trap, Striped, Blocked, Replicated}
 use Rattle.world_model.specs.Allocation.{server_of, taken_from}
 use Rattle.world_model.specs.World.{Setting, Extent, Item, Operation, Grant, Strand, World, lookup, strand_of, is_clear}
 use Rattle.world_model.specs.Effect.{grant_of}
@@ -50,20 +50,32 @@ granted_by u w taken = option_and_then (λ words. grant_of u.rules (allocated_at
 -- What it leaves pending at each nodelet other than the serving one: nothing of local words.
 abbrev pub announced : Request → Option Extent → List Item
 announced request None = []
+announced (Striped _) (Some extent) = Grant extent ∷ []
+announced (Blocked _ _) (Some extent) = Grant extent ∷ []
 announced (Local _ _ _) (Some extent) = []
-announced request (Some extent) = Grant extent ∷ []
+announced (Replicated _) (Some extent) = Grant extent ∷ []
 
 -- What an action that has its effect leaves pending at nodelet k.
 abbrev pub left_by : Setting → World → Strand → Action → ℕ → List Item
+left_by u w s Turn k = []
+left_by u w s (Load _ _) k = []
 left_by u w s (Issue at op a v) k =
     let owner = owner_of a s.place u.nodelets in
     if k == owner && not (owner == s.place) then Operation op a v at ∷ [] else []
+left_by u w s (Fetch _ _ _) k = []
 left_by u w s (Init at a v) k = if nat_lt k u.nodelets && not (k == s.place) then Operation Store a v at ∷ [] else []
+left_by u w s Fence k = []
+left_by u w s (Move _ _) k = []
+left_by u w s Where k = []
+left_by u w s (Print _) k = []
 left_by u w s (Alloc request) k =
     if nat_lt k u.nodelets && not (k == server_of u.nodelets s.place request)
     then announced request (granted_by u w (taken_from u.nodelets s.place request))
     else []
-left_by u w s _ k = []
+left_by u w s (Spawn _ _ _ _) k = []
+left_by u w s (Sync _) k = []
+left_by u w s (End _) k = []
+left_by u w s (Trap _ _) k = []
 
 -- What a strand issues to nodelet k in a step.
 abbrev pub issued_by_step : Setting → Name → ℕ → World → Step → List Item

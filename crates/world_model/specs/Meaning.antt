@@ -1,6 +1,6 @@
 -- What the functions that strands run mean.
 use Rattle.std.specs.Prelude.{ℕ, suc, ℤ, pos, List, [], ◌∷◌, length, Bool, true, false, ◌==◌, ◌&&◌, if◌then◌else◌, Option, Some, None}
-use Rattle.world_model.specs.Action.{Action, Spawn, Sync, Answers, answer_length}
+use Rattle.world_model.specs.Action.{Action, Spawn, Sync, Answers, answer_length, Turn, Load, Issue, Fetch, Init, Fence, Move, Where, Print, Alloc, End, Trap}
 
 -- A meaning says which actions the strand that runs a function on arguments has made after these answers:
 -- one for each answer, and the one that it is due next, or its last. It names the function of the first
@@ -13,9 +13,20 @@ pub record Meaning : Type 0 where
 
 -- How many children the activation at each depth has to join, after one more action.
 abbrev pub children_after : Action → (ℕ → ℕ) → ℕ → ℕ
+children_after Turn children e = children e
+children_after (Load _ _) children e = children e
+children_after (Issue _ _ _ _) children e = children e
+children_after (Fetch _ _ _) children e = children e
+children_after (Init _ _ _) children e = children e
+children_after Fence children e = children e
+children_after (Move _ _) children e = children e
+children_after Where children e = children e
+children_after (Print _) children e = children e
+children_after (Alloc _) children e = children e
 children_after (Spawn d _ _ _) children e = if e == d then suc (children e) else children e
 children_after (Sync d) children e = if e == d then 0 else children e
-children_after _ children e = children e
+children_after (End _) children e = children e
+children_after (Trap _ _) children e = children e
 
 -- An answer has the length that its action demands.
 abbrev pub is_answer : Option ℕ → List ℤ → Bool

@@ -10,7 +10,7 @@ use Rattle.word_ops.specs.declared.ending.TrapKind.{TrapKind}
 use Rattle.word_ops.specs.declared.ending.TrapKind.TheVariants.{BadAddress, OutOfBounds}
 use Rattle.mem_atomics.specs.NewWord.{applied}
 use Rattle.data_layout.specs.Address.{owner_of}
-use Rattle.world_model.specs.Action.{Action, Load, Issue, Fetch, Init, pos_of}
+use Rattle.world_model.specs.Action.{Action, Load, Issue, Fetch, Init, pos_of, Turn, Fence, Move, Where, Print, Alloc, Spawn, Sync, End, Trap}
 use Rattle.world_model.specs.Sight.{is_bad, is_ready, is_leaving}
 use Rattle.world_model.specs.World.{Setting, Item, Operation, Grant, Status, Live, Ended, Trapped, Strand, World, is_granted, strand_of, with_at, with_strand, with_word, with_grant, with_trap}
 use Rattle.world_model.specs.Effect.{sight_of, effect}
@@ -56,11 +56,20 @@ refused_as_late u w s action =
 -- The nodelet and the address of the word that an action uses at once: for a load or a fetch at the owner, for
 -- an operation where the strand is at the owner, and for an Init at the place.
 abbrev pub used_at_once : ℕ → ℕ → Action → Option (ℕ × ℤ)
+used_at_once n here Turn = None
 used_at_once n here (Load _ a) = Some (owner_of a here n, a)
-used_at_once n here (Fetch _ _ a) = Some (owner_of a here n, a)
 used_at_once n here (Issue _ _ a _) = if owner_of a here n == here then Some (here, a) else None
+used_at_once n here (Fetch _ _ a) = Some (owner_of a here n, a)
 used_at_once n here (Init _ a _) = Some (here, a)
-used_at_once n here _ = None
+used_at_once n here Fence = None
+used_at_once n here (Move _ _) = None
+used_at_once n here Where = None
+used_at_once n here (Print _) = None
+used_at_once n here (Alloc _) = None
+used_at_once n here (Spawn _ _ _ _) = None
+used_at_once n here (Sync _) = None
+used_at_once n here (End _) = None
+used_at_once n here (Trap _ _) = None
 
 -- Last, an action traps at the nodelet where it would use a word that is not granted there.
 abbrev pub refused_as_outside : Setting → World → Action → Option (ℕ × ℤ) → Option Refusal

@@ -9,7 +9,7 @@ use Rattle.word_ops.specs.declared.traffic.Traffic.{Traffic}
 use Rattle.word_ops.specs.Naming.{same_name}
 use Rattle.word_ops.specs.Report.{below}
 use Rattle.data_layout.specs.Address.{owner_of}
-use Rattle.world_model.specs.Action.{Action, Turn, Issue, Init, Spawn, End}
+use Rattle.world_model.specs.Action.{Action, Turn, Issue, Init, Spawn, End, Load, Fetch, Fence, Move, Where, Print, Alloc, Sync, Trap}
 use Rattle.world_model.specs.World.{Setting, Item, Operation, Grant, Strand, World, strand_of}
 use Rattle.world_model.specs.Step.{due, refusal_of}
 use Rattle.world_model.specs.Run.{transitions, start}
@@ -18,14 +18,38 @@ use Rattle.world_model.specs.Run.{transitions, start}
 
 -- A birth by a hint counts from the parent's place to the child's.
 abbrev pub births_of : ℕ → ℕ → Action → List (ℕ × ℕ)
+births_of n here Turn = []
+births_of n here (Load _ _) = []
+births_of n here (Issue _ _ _ _) = []
+births_of n here (Fetch _ _ _) = []
+births_of n here (Init _ _ _) = []
+births_of n here Fence = []
+births_of n here (Move _ _) = []
+births_of n here Where = []
+births_of n here (Print _) = []
+births_of n here (Alloc _) = []
+births_of n here (Spawn _ _ _ None) = []
 births_of n here (Spawn _ _ _ (Some hint)) = (here, owner_of hint.address here n) ∷ []
-births_of n here _ = []
+births_of n here (Sync _) = []
+births_of n here (End _) = []
+births_of n here (Trap _ _) = []
 
 -- An operation counts from the place to its owner, and an Init from the place to each nodelet.
 abbrev pub posts_of : ℕ → ℕ → Action → List (ℕ × ℕ)
+posts_of n here Turn = []
+posts_of n here (Load _ _) = []
 posts_of n here (Issue _ _ a _) = (here, owner_of a here n) ∷ []
+posts_of n here (Fetch _ _ _) = []
 posts_of n here (Init _ _ _) = map (λ k. (here, k)) (below n)
-posts_of n here _ = []
+posts_of n here Fence = []
+posts_of n here (Move _ _) = []
+posts_of n here Where = []
+posts_of n here (Print _) = []
+posts_of n here (Alloc _) = []
+posts_of n here (Spawn _ _ _ _) = []
+posts_of n here (Sync _) = []
+posts_of n here (End _) = []
+posts_of n here (Trap _ _) = []
 
 -- The strand that has a child to join.
 abbrev pub parent_of : World → Name → Option Strand
@@ -33,19 +57,54 @@ parent_of w child = option_map (λ entry. entry.1) (find (λ entry. list_any (λ
 
 -- An end counts from the place to the parent's home.
 abbrev pub dones_of : World → Name → ℕ → Action → List (ℕ × ℕ)
+dones_of w name here Turn = []
+dones_of w name here (Load _ _) = []
+dones_of w name here (Issue _ _ _ _) = []
+dones_of w name here (Fetch _ _ _) = []
+dones_of w name here (Init _ _ _) = []
+dones_of w name here Fence = []
+dones_of w name here (Move _ _) = []
+dones_of w name here Where = []
+dones_of w name here (Print _) = []
+dones_of w name here (Alloc _) = []
+dones_of w name here (Spawn _ _ _ _) = []
+dones_of w name here (Sync _) = []
 dones_of w name here (End _) = map (λ parent. (here, parent.home)) (option_to_list (parent_of w name))
-dones_of w name here _ = []
+dones_of w name here (Trap _ _) = []
 
 -- A Turn counts at the place.
 abbrev pub turns_of : ℕ → Action → List ℕ
 turns_of here Turn = here ∷ []
-turns_of here _ = []
+turns_of here (Load _ _) = []
+turns_of here (Issue _ _ _ _) = []
+turns_of here (Fetch _ _ _) = []
+turns_of here (Init _ _ _) = []
+turns_of here Fence = []
+turns_of here (Move _ _) = []
+turns_of here Where = []
+turns_of here (Print _) = []
+turns_of here (Alloc _) = []
+turns_of here (Spawn _ _ _ _) = []
+turns_of here (Sync _) = []
+turns_of here (End _) = []
+turns_of here (Trap _ _) = []
 
 -- An operation that is done at once counts where it is done.
 abbrev pub applied_of : ℕ → ℕ → Action → List ℕ
+applied_of n here Turn = []
+applied_of n here (Load _ _) = []
 applied_of n here (Issue _ _ a _) = if owner_of a here n == here then here ∷ [] else []
+applied_of n here (Fetch _ _ _) = []
 applied_of n here (Init _ _ _) = here ∷ []
-applied_of n here _ = []
+applied_of n here Fence = []
+applied_of n here (Move _ _) = []
+applied_of n here Where = []
+applied_of n here (Print _) = []
+applied_of n here (Alloc _) = []
+applied_of n here (Spawn _ _ _ _) = []
+applied_of n here (Sync _) = []
+applied_of n here (End _) = []
+applied_of n here (Trap _ _) = []
 
 -- ---- what a step counts as
 
@@ -91,13 +150,14 @@ table n counted = flat_map (λ i. map (λ j. count_by (λ x. x.0 == i && x.1 == 
 -- The traffic of a run.
 abbrev pub traffic_of : Setting → List Step → Traffic
 traffic_of u told =
+    let n = u.nodelets in
     let ts = transitions u (start u) told in
     record {
-      n = u.nodelets;
-      moves = table u.nodelets (flat_map (λ t. moves_in t.before t.after t.done) ts);
-      births = table u.nodelets (flat_map (λ t. by_action u t.before (λ _. births_of u.nodelets) t.done) ts);
-      posts = table u.nodelets (flat_map (λ t. by_action u t.before (λ _. posts_of u.nodelets) t.done) ts);
-      dones = table u.nodelets (flat_map (λ t. by_action u t.before (dones_of t.before) t.done) ts);
-      turns = tally u.nodelets (flat_map (λ t. by_action u t.before (λ _. turns_of) t.done) ts);
-      applied = tally u.nodelets (flat_map (λ t. applied_in u t.before t.done) ts);
+      n = n;
+      moves = table n (flat_map (λ t. moves_in t.before t.after t.done) ts);
+      births = table n (flat_map (λ t. by_action u t.before (λ _. births_of n) t.done) ts);
+      posts = table n (flat_map (λ t. by_action u t.before (λ _. posts_of n) t.done) ts);
+      dones = table n (flat_map (λ t. by_action u t.before (dones_of t.before) t.done) ts);
+      turns = tally n (flat_map (λ t. by_action u t.before (λ _. turns_of) t.done) ts);
+      applied = tally n (flat_map (λ t. applied_in u t.before t.done) ts);
     }
