@@ -4,7 +4,7 @@ use Rattle.cilk_ast.specs.declared.program.Function.{Function}
 use Rattle.cilk_ast.specs.Parts.{expressions_of}
 use Rattle.cilk_ast.specs.declared.program.Expr.{Expr, Word, Slot, Call', Fence, Where, Print', Alloc', Row_of-Expr as Args, end_of-Expr as no_args, more_of-Expr as more_args}
 use Rattle.cilk_ast.specs.Expression.{Un, Bin, Both, Either, Load, Post, Add, Swap, Cas, Init, Move}
-use Rattle.cilk_ast.specs.declared.program.Stmt.{Stmt, Block', Each, Row_of-Stmt as Stmts, end_of-Stmt as no_stmts, more_of-Stmt as more_stmts}
+use Rattle.cilk_ast.specs.declared.program.Stmt.{Stmt, Block', Each, Row_of-Stmt as Stmts, end_of-Stmt as no_stmts, more_of-Stmt as more_stmts, AddTo, Break, Continue, Eval, If', Loop', Nothing, Return, Set, Spawn, Store, Sync}
 use Rattle.cilk_ast.specs.Statement.{If, Loop}
 
 -- The expressions in an expression, itself and its arguments included.
@@ -35,8 +35,20 @@ abbrev mutual
 
 -- The slots that a statement copies.
 abbrev pub copies_of : Stmt → List ℕ
+copies_of Nothing = []
+copies_of (Block' _ _) = []
+copies_of (Eval _) = []
+copies_of (Set _ _) = []
+copies_of (Store _ _ _) = []
+copies_of (AddTo _ _ _) = []
+copies_of (Spawn _ _ _ _ _) = []
+copies_of (If' _ _ _ _ _) = []
+copies_of (Loop' _ _ _ _ _) = []
 copies_of (Each at low high function copies) = copies
-copies_of _ = []
+copies_of Break = []
+copies_of Continue = []
+copies_of (Return _) = []
+copies_of Sync = []
 
 -- A statement without the statements in it: itself, its expressions, and the slots that it copies.
 abbrev pub own_nodes : Stmt → ℕ
@@ -45,10 +57,20 @@ own_nodes body = suc (sum (map expression_nodes (expressions_of body)) + length 
 -- The nodes of a statement.
 abbrev mutual
   pub statement_nodes : Stmt → ℕ
+  statement_nodes Nothing = own_nodes Nothing
   statement_nodes (Block' n body) = suc (row_nodes body)
+  statement_nodes (Eval value) = own_nodes (Eval value)
+  statement_nodes (Set slot value) = own_nodes (Set slot value)
+  statement_nodes (Store at address value) = own_nodes (Store at address value)
+  statement_nodes (AddTo at address value) = own_nodes (AddTo at address value)
+  statement_nodes (Spawn at target function hint args) = own_nodes (Spawn at target function hint args)
   statement_nodes (If test yes_ no_) = own_nodes (If test yes_ no_) + statement_nodes yes_ + statement_nodes no_
   statement_nodes (Loop test step body) = own_nodes (Loop test step body) + statement_nodes step + statement_nodes body
-  statement_nodes other = own_nodes other
+  statement_nodes (Each at low high function copies) = own_nodes (Each at low high function copies)
+  statement_nodes Break = own_nodes Break
+  statement_nodes Continue = own_nodes Continue
+  statement_nodes (Return value) = own_nodes (Return value)
+  statement_nodes Sync = own_nodes Sync
 
   pub row_nodes : {n : _} → Stmts n → ℕ
   row_nodes no_stmts = 0

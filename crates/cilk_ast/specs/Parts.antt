@@ -2,7 +2,7 @@
 use Rattle.std.specs.Prelude.{Bool, true, ◌&&◌, List, [], ◌∷◌, Some, None}
 use Rattle.cilk_ast.specs.declared.program.Expr.{Expr, Word, Slot, Call', Fence, Where, Print', Alloc', Row_of-Expr as Args, end_of-Expr as no_args, more_of-Expr as more_args}
 use Rattle.cilk_ast.specs.Expression.{Un, Bin, Both, Either, Load, Post, Add, Swap, Cas, Init, Move}
-use Rattle.cilk_ast.specs.declared.program.Stmt.{Stmt, Block', Eval, Set, Store, AddTo, Spawn, Each, Return, Row_of-Stmt as Stmts, end_of-Stmt as no_stmts, more_of-Stmt as more_stmts}
+use Rattle.cilk_ast.specs.declared.program.Stmt.{Stmt, Block', Eval, Set, Store, AddTo, Spawn, Each, Return, Row_of-Stmt as Stmts, end_of-Stmt as no_stmts, more_of-Stmt as more_stmts, Break, Continue, If', Loop', Nothing, Sync}
 use Rattle.cilk_ast.specs.Statement.{If, Loop}
 
 -- Each expression in an expression, itself included, has a property.
@@ -36,10 +36,20 @@ module _ (has : Expr → Bool) where
 module _ (has : Stmt → Bool) where
   abbrev mutual
     pub each : Stmt → Bool
+    each Nothing = has Nothing
     each (Block' n body) = has (Block' n body) && each_of body
+    each (Eval value) = has (Eval value)
+    each (Set slot value) = has (Set slot value)
+    each (Store at address value) = has (Store at address value)
+    each (AddTo at address value) = has (AddTo at address value)
+    each (Spawn at target function hint args) = has (Spawn at target function hint args)
     each (If test yes_ no_) = has (If test yes_ no_) && each yes_ && each no_
     each (Loop test step body) = has (Loop test step body) && each step && each body
-    each other = has other
+    each (Each at low high function copies) = has (Each at low high function copies)
+    each Break = has Break
+    each Continue = has Continue
+    each (Return value) = has (Return value)
+    each Sync = has Sync
 
     pub each_of : {n : _} → Stmts n → Bool
     each_of no_stmts = true
@@ -47,6 +57,8 @@ module _ (has : Stmt → Bool) where
 
 -- The expressions of a statement, those of the statements in it left out.
 abbrev pub expressions_of : Stmt → List Expr
+expressions_of Nothing = []
+expressions_of (Block' _ _) = []
 expressions_of (Eval value) = value ∷ []
 expressions_of (Set slot value) = value ∷ []
 expressions_of (Store at address value) = address ∷ value ∷ []
@@ -56,5 +68,7 @@ expressions_of (Spawn at target function (Some hint) args) = hint ∷ args
 expressions_of (If test yes_ no_) = test ∷ []
 expressions_of (Loop test step body) = test ∷ []
 expressions_of (Each at low high function copies) = low ∷ high ∷ []
+expressions_of Break = []
+expressions_of Continue = []
 expressions_of (Return value) = value ∷ []
-expressions_of _ = []
+expressions_of Sync = []

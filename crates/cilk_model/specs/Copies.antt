@@ -6,15 +6,17 @@ use Rattle.cilk_ast.specs.declared.tree.TValue.{TValue}
 use Rattle.cilk_ast.specs.declared.tree.TValue.TheVariants.{Plain, Spawned}
 use Rattle.cilk_ast.specs.declared.tree.TExpr.{TExpr, Number, Var, Call', Builtin', Print', Row_of-TExpr as Args, end_of-TExpr as no_args, more_of-TExpr as more_args}
 use Rattle.cilk_ast.specs.TreeExpression.{Paren, Un, Deref, Cast, Index, Bin, Both, Either, InitAt}
-use Rattle.cilk_ast.specs.declared.tree.TStmt.{TStmt, Block', Local, Eval, Assign, AddTo, Up, Down, Spawn, Return, Held-TStmt-If-2, None', Row_of-TStmt as Stmts, end_of-TStmt as no_stmts, more_of-TStmt as more_stmts}
+use Rattle.cilk_ast.specs.declared.tree.TStmt.{TStmt, Block', Local, Eval, Assign, AddTo, Up, Down, Spawn, Return, Held-TStmt-If-2, None', Row_of-TStmt as Stmts, end_of-TStmt as no_stmts, more_of-TStmt as more_stmts, Empty, Break, Continue, Sync}
 use Rattle.cilk_ast.specs.TreeStatement.{If, While, For, CilkFor, Present}
-use Rattle.cilk_model.specs.Scopes.{Entity, local, Names, Scopes, names_in, opened}
+use Rattle.cilk_model.specs.Scopes.{Entity, local, Names, Scopes, names_in, opened, global, function}
 use Rattle.cilk_model.specs.Locals.{in_body, after, after_part}
 
 -- The number of a local.
 abbrev pub number_of : Option Entity → List ℕ
+number_of None = []
 number_of (Some (local l)) = l.number ∷ []
-number_of _ = []
+number_of (Some (global _)) = []
+number_of (Some (function _)) = []
 
 -- The numbers of the locals that an expression names.
 module _ (names : Names) where
@@ -62,6 +64,7 @@ module _ (names : Names) where
 -- The numbers of the locals that a statement names, those of its `cilk_for`s included.
 abbrev mutual
   pub named_in : TStmt → Scopes → List ℕ
+  named_in Empty scopes = []
   named_in (Block' n body) scopes = named_in_all body (opened scopes)
   named_in (Local at kind name value) scopes = named_by_initial (names_in scopes) value
   named_in (Eval e) scopes = named_by (names_in scopes) e
@@ -78,8 +81,10 @@ abbrev mutual
       ++ named_in body (after_part step begun)
   named_in (CilkFor at name low second high third body) scopes =
       named_by (names_in scopes) low ++ named_by (names_in scopes) high ++ named_in body (in_body name scopes)
+  named_in (Break _) scopes = []
+  named_in (Continue _) scopes = []
   named_in (Return at value) scopes = named_by_option (names_in scopes) value
-  named_in _ scopes = []
+  named_in Sync scopes = []
 
   pub named_in_part : Held-TStmt-If-2 → Scopes → List ℕ
   named_in_part None' scopes = []

@@ -11,7 +11,7 @@ use Rattle.cilk_ast.specs.declared.tree.TSpawn.{TSpawn}
 use Rattle.cilk_ast.specs.declared.tree.TExpr.{TExpr, Number, Var, Call', Builtin', Print', Row_of-TExpr as Args, end_of-TExpr as no_args, more_of-TExpr as more_args}
 use Rattle.cilk_ast.specs.TreeExpression.{Paren, Un, Deref, Cast, Index, Bin, Both, Either, InitAt}
 use Rattle.cilk_model.specs.FirstFault.{broken, broken_if}
-use Rattle.cilk_model.specs.Scopes.{Entity, function, Names}
+use Rattle.cilk_model.specs.Scopes.{Entity, function, Names, local, global}
 use Rattle.cilk_model.specs.Formats.{format_of}
 use Rattle.cilk_model.specs.Sorts.{is_word, is_value, is_zero, fits, binary_kind, takes_operand, is_replicated, wanted, Judged, counts, kind_of, judged, judged_row}
 
@@ -45,7 +45,8 @@ index_misfits base index = if is_some base.kind && is_some index.kind then unfit
 abbrev pub variable_faults : Pos → Option Entity → List TextFault
 variable_faults at None = broken fault.Unknown at
 variable_faults at (Some (function f)) = broken fault.WrongType at
-variable_faults at (Some _) = []
+variable_faults at (Some (local _)) = []
+variable_faults at (Some (global _)) = []
 
 -- Each argument fits what is wanted in its place.
 abbrev pub misfits : List Kind → List Judged → List TextFault
@@ -60,7 +61,8 @@ miscounts at kinds args = broken_if (not (length kinds == length args)) fault.Wr
 abbrev pub call_faults : Pos → Option Entity → List Judged → List TextFault
 call_faults at None args = broken fault.Unknown at
 call_faults at (Some (function f)) args = miscounts at f.params args ++ misfits f.params args
-call_faults at (Some _) args = broken fault.WrongType at
+call_faults at (Some (local _)) args = broken fault.WrongType at
+call_faults at (Some (global _)) args = broken fault.WrongType at
 
 -- Each argument is a word.
 abbrev pub word_misfits : List Judged → List TextFault

@@ -20,15 +20,20 @@ slot_in frame number = position_or_len (λ other. other == number) frame
 
 -- The address of a global.
 abbrev pub address_of : Option Entity → ℤ
+address_of None = pos 0
+address_of (Some (local _)) = pos 0
 address_of (Some (global g)) = g.address
-address_of _ = pos 0
+address_of (Some (function _)) = pos 0
 
 -- Which function a name calls.
 abbrev pub index_of : Option Entity → ℕ
+index_of None = 0
+index_of (Some (local _)) = 0
+index_of (Some (global _)) = 0
 index_of (Some (function f)) = f.index
-index_of _ = 0
 
--- What a built-in is on its arguments. Those that are not here allocate.
+-- What a built-in is on its arguments. Four allocate. With another number of arguments than it takes, which no
+-- text without a fault has, any built-in stands as it is.
 abbrev pub built_in : Pos → Builtin → List Expr → Expr
 built_in at built.RemoteAdd (p ∷ v ∷ []) = code.Post at op.Add p v
 built_in at built.RemoteAnd (p ∷ v ∷ []) = code.Post at op.And p v
@@ -43,12 +48,30 @@ built_in at built.MwReplicatedInit (p ∷ v ∷ []) = code.Init at p v
 built_in at built.Fence [] = Fence
 built_in at built.Migrate (p ∷ []) = code.Move at p
 built_in at built.NodeId [] = Where
-built_in at which args = code.Alloc at which args
+built_in at built.MwMalloc1dlong args = code.Alloc at built.MwMalloc1dlong args
+built_in at built.MwMalloc2dlong args = code.Alloc at built.MwMalloc2dlong args
+built_in at built.MwLocalmalloc args = code.Alloc at built.MwLocalmalloc args
+built_in at built.MwMallocrepl args = code.Alloc at built.MwMallocrepl args
+built_in at built.MwReplicatedInit args = code.Alloc at built.MwReplicatedInit args
+built_in at built.RemoteAdd args = code.Alloc at built.RemoteAdd args
+built_in at built.RemoteAnd args = code.Alloc at built.RemoteAnd args
+built_in at built.RemoteOr args = code.Alloc at built.RemoteOr args
+built_in at built.RemoteXor args = code.Alloc at built.RemoteXor args
+built_in at built.RemoteMin args = code.Alloc at built.RemoteMin args
+built_in at built.RemoteMax args = code.Alloc at built.RemoteMax args
+built_in at built.AtomicAddms args = code.Alloc at built.AtomicAddms args
+built_in at built.AtomicSwap args = code.Alloc at built.AtomicSwap args
+built_in at built.AtomicCas args = code.Alloc at built.AtomicCas args
+built_in at built.Fence args = code.Alloc at built.Fence args
+built_in at built.Migrate args = code.Alloc at built.Migrate args
+built_in at built.NodeId args = code.Alloc at built.NodeId args
 
 -- The word of a variable.
 abbrev pub variable : Frame → Pos → Option Entity → Expr
+variable frame at None = code.Load at (Word (address_of None))
 variable frame at (Some (local l)) = Slot (slot_in frame l.number)
-variable frame at other = code.Load at (Word (address_of other))
+variable frame at (Some (global g)) = code.Load at (Word (address_of (Some (global g))))
+variable frame at (Some (function f)) = code.Load at (Word (address_of (Some (function f))))
 
 module _ (names : Names) (frame : Frame) where
   -- An expression in a function with this frame.

@@ -2,14 +2,25 @@
 use Rattle.std.specs.Prelude.{◌≡◌, ◌≤◌, ℕ, suc, ℤ, List, ◌∷◌, ◌++◌, length, Bool, true, false}
 use Rattle.std.specs.List.{list_any}
 use Rattle.cilk_ast.specs.declared.program.Function.{Function}
-use Rattle.world_model.specs.Action.{Action, Turn, End, Trap, Answers}
+use Rattle.world_model.specs.Action.{Action, Turn, End, Trap, Answers, Load, Issue, Fetch, Init, Fence, Move, Where, Print, Alloc, Spawn, Sync}
 use Rattle.cilk_model.specs.Acts.{acts}
 
 -- A strand does nothing after this action.
 abbrev pub is_final : Action → Bool
+is_final Turn = false
+is_final (Load _ _) = false
+is_final (Issue _ _ _ _) = false
+is_final (Fetch _ _ _) = false
+is_final (Init _ _ _) = false
+is_final Fence = false
+is_final (Move _ _) = false
+is_final Where = false
+is_final (Print _) = false
+is_final (Alloc _) = false
+is_final (Spawn _ _ _ _) = false
+is_final (Sync _) = false
 is_final (End _) = true
 is_final (Trap _ _) = true
-is_final _ = false
 
 -- A strand that has made these actions has ended or trapped.
 abbrev pub is_over : List Action → Bool

@@ -3,7 +3,7 @@ use Rattle.std.specs.Prelude.{ℕ, List, [], ◌∷◌, ◌++◌}
 use Rattle.word_ops.specs.declared.place.Pos.{Pos}
 use Rattle.cilk_ast.specs.declared.kind.Kind.TheVariants as sort
 use Rattle.cilk_ast.specs.declared.tree.Param.{Param}
-use Rattle.cilk_ast.specs.declared.tree.TStmt.{TStmt, Block', Local, Held-TStmt-If-2, None', Row_of-TStmt as Stmts, end_of-TStmt as no_stmts, more_of-TStmt as more_stmts}
+use Rattle.cilk_ast.specs.declared.tree.TStmt.{TStmt, Block', Local, Held-TStmt-If-2, None', Row_of-TStmt as Stmts, end_of-TStmt as no_stmts, more_of-TStmt as more_stmts, Empty, Eval, Assign, AddTo, Up, Down, Spawn, Break, Continue, Return, Sync}
 use Rattle.cilk_ast.specs.TreeStatement.{If, While, For, CilkFor, Present}
 use Rattle.cilk_model.specs.Scopes.{Scopes, declared, opened, outlined, closed}
 
@@ -11,13 +11,23 @@ use Rattle.cilk_model.specs.Scopes.{Scopes, declared, opened, outlined, closed}
 -- variables of `for` and `cilk_for` among them.
 abbrev mutual
   pub locals_of : TStmt → List Pos
+  locals_of Empty = []
   locals_of (Block' n body) = locals_of_all body
   locals_of (Local at kind name value) = at ∷ []
+  locals_of (Eval _) = []
+  locals_of (Assign _ _ _) = []
+  locals_of (AddTo _ _ _) = []
+  locals_of (Up _) = []
+  locals_of (Down _) = []
+  locals_of (Spawn _) = []
   locals_of (If test yes_ no_) = locals_of yes_ ++ locals_of_part no_
   locals_of (While test body) = locals_of body
   locals_of (For init test step body) = locals_of_part init ++ locals_of_part step ++ locals_of body
   locals_of (CilkFor at name low second high third body) = at ∷ locals_of body
-  locals_of _ = []
+  locals_of (Break _) = []
+  locals_of (Continue _) = []
+  locals_of (Return _ _) = []
+  locals_of Sync = []
 
   -- of a part that may be missing
   pub locals_of_part : Held-TStmt-If-2 → List Pos
@@ -36,13 +46,23 @@ in_body name scopes = outlined (declared name sort.Long (opened scopes))
 -- Behind a statement: what it declares is counted, and known where that is not in a scope of the statement's own.
 abbrev mutual
   pub after : TStmt → Scopes → Scopes
+  after Empty scopes = scopes
   after (Block' n body) scopes = closed (after_all body (opened scopes))
   after (Local at kind name value) scopes = declared name kind scopes
+  after (Eval _) scopes = scopes
+  after (Assign _ _ _) scopes = scopes
+  after (AddTo _ _ _) scopes = scopes
+  after (Up _) scopes = scopes
+  after (Down _) scopes = scopes
+  after (Spawn _) scopes = scopes
   after (If test yes_ no_) scopes = after_part no_ (after yes_ scopes)
   after (While test body) scopes = after body scopes
   after (For init test step body) scopes = closed (after body (after_part step (after_part init (opened scopes))))
   after (CilkFor at name low second high third body) scopes = record (closed (after body (in_body name scopes))) { level = scopes.level }
-  after _ scopes = scopes
+  after (Break _) scopes = scopes
+  after (Continue _) scopes = scopes
+  after (Return _ _) scopes = scopes
+  after Sync scopes = scopes
 
   pub after_part : Held-TStmt-If-2 → Scopes → Scopes
   after_part None' scopes = scopes

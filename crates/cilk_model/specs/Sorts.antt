@@ -13,7 +13,7 @@ use Rattle.cilk_ast.specs.declared.builtin.Builtin.TheVariants as built
 use Rattle.cilk_ast.specs.declared.kind.Kind.{Kind}
 use Rattle.cilk_ast.specs.declared.kind.Kind.TheVariants as sort
 use Rattle.cilk_ast.specs.declared.tree.TSpawn.{TSpawn}
-use Rattle.cilk_ast.specs.declared.tree.TExpr.{TExpr, Number, Var, Call', Builtin', Print', Row_of-TExpr as Args, end_of-TExpr as no_args, more_of-TExpr as more_args}
+use Rattle.cilk_ast.specs.declared.tree.TExpr.{TExpr, Number, Var, Call', Builtin', Print', Row_of-TExpr as Args, end_of-TExpr as no_args, more_of-TExpr as more_args, Bin', Both', Cast', Deref', Either', Index', InitAt', Paren', Un'}
 use Rattle.cilk_ast.specs.TreeExpression.{Paren, Un, Deref, Cast, Index, Bin, Both, Either, InitAt}
 use Rattle.cilk_model.specs.Scopes.{Entity, local, global, function, Names}
 use Rattle.cilk_model.specs.Formats.{format_of}
@@ -23,7 +23,9 @@ use Rattle.cilk_model.specs.Formats.{format_of}
 -- The result of main counts as a word.
 abbrev pub counted : Kind → Kind
 counted sort.Int = sort.Long
-counted kind = kind
+counted sort.Long = sort.Long
+counted sort.Ptr = sort.Ptr
+counted sort.Void = sort.Void
 
 -- Two kinds are the same.
 abbrev pub same_kind : Kind → Kind → Bool
@@ -44,8 +46,19 @@ is_value kind = same_kind sort.Long kind || same_kind sort.Ptr kind
 -- A literal of value 0, brackets aside.
 abbrev pub is_zero : TExpr → Bool
 is_zero (Number at value) = same_word value (pos 0)
+is_zero (Var _ _) = false
 is_zero (Paren at inner) = is_zero inner
-is_zero _ = false
+is_zero (Un' _ _ _ _) = false
+is_zero (Deref' _ _ _) = false
+is_zero (Cast' _ _ _ _) = false
+is_zero (Index' _ _ _ _ _) = false
+is_zero (Bin' _ _ _ _ _ _) = false
+is_zero (Both' _ _ _ _ _) = false
+is_zero (Either' _ _ _ _ _) = false
+is_zero (Call' _ _ _ _) = false
+is_zero (Builtin' _ _ _ _) = false
+is_zero (Print' _ _ _ _ _) = false
+is_zero (InitAt' _ _ _ _ _) = false
 
 -- The first token of an expression.
 abbrev pub begins_at : TExpr → Pos
@@ -119,31 +132,42 @@ are_alike left right k l = is_value k && is_value l && (fits k right l || fits l
 abbrev pub binary_kind : BinaryOp → Bool → Bool → Kind → Kind → Option Kind
 binary_kind by.Add left right k l = sum_kind k l
 binary_kind by.Sub left right k l = difference_kind k l
+binary_kind by.Mul left right k l = word_if (is_word k && is_word l)
+binary_kind by.Div left right k l = word_if (is_word k && is_word l)
+binary_kind by.Rem left right k l = word_if (is_word k && is_word l)
+binary_kind by.Shl left right k l = word_if (is_word k && is_word l)
+binary_kind by.Shr left right k l = word_if (is_word k && is_word l)
 binary_kind by.Lt left right k l = word_if (are_alike left right k l)
 binary_kind by.Le left right k l = word_if (are_alike left right k l)
 binary_kind by.Gt left right k l = word_if (are_alike left right k l)
 binary_kind by.Ge left right k l = word_if (are_alike left right k l)
 binary_kind by.Eq left right k l = word_if (are_alike left right k l)
 binary_kind by.Ne left right k l = word_if (are_alike left right k l)
-binary_kind _ left right k l = word_if (is_word k && is_word l)
+binary_kind by.And left right k l = word_if (is_word k && is_word l)
+binary_kind by.Xor left right k l = word_if (is_word k && is_word l)
+binary_kind by.Or left right k l = word_if (is_word k && is_word l)
 
 -- An operator takes an operand of this kind.
 abbrev pub takes_operand : UnaryOp → Kind → Bool
+takes_operand unary.Neg kind = is_word kind
 takes_operand unary.Not kind = is_value kind
-takes_operand _ kind = is_word kind
+takes_operand unary.Flip kind = is_word kind
 
 -- ---- names, calls and built-ins
 
 -- The kind of a variable.
 abbrev pub variable_kind : Option Entity → Option Kind
+variable_kind None = None
 variable_kind (Some (local l)) = Some l.kind
 variable_kind (Some (global g)) = Some g.kind
-variable_kind _ = None
+variable_kind (Some (function _)) = None
 
 -- A name is that of a replicated global.
 abbrev pub is_replicated : Option Entity → Bool
+is_replicated None = false
+is_replicated (Some (local _)) = false
 is_replicated (Some (global g)) = g.replicated
-is_replicated _ = false
+is_replicated (Some (function _)) = false
 
 -- What a built-in takes: an address first, where it takes one, and words.
 abbrev pub wanted : Builtin → List Kind
@@ -151,11 +175,19 @@ wanted built.MwMalloc1dlong = sort.Long ∷ []
 wanted built.MwMalloc2dlong = sort.Long ∷ sort.Long ∷ []
 wanted built.MwLocalmalloc = sort.Long ∷ sort.Ptr ∷ []
 wanted built.MwMallocrepl = sort.Long ∷ []
+wanted built.MwReplicatedInit = sort.Ptr ∷ sort.Long ∷ []
+wanted built.RemoteAdd = sort.Ptr ∷ sort.Long ∷ []
+wanted built.RemoteAnd = sort.Ptr ∷ sort.Long ∷ []
+wanted built.RemoteOr = sort.Ptr ∷ sort.Long ∷ []
+wanted built.RemoteXor = sort.Ptr ∷ sort.Long ∷ []
+wanted built.RemoteMin = sort.Ptr ∷ sort.Long ∷ []
+wanted built.RemoteMax = sort.Ptr ∷ sort.Long ∷ []
+wanted built.AtomicAddms = sort.Ptr ∷ sort.Long ∷ []
+wanted built.AtomicSwap = sort.Ptr ∷ sort.Long ∷ []
 wanted built.AtomicCas = sort.Ptr ∷ sort.Long ∷ sort.Long ∷ []
 wanted built.Fence = []
 wanted built.Migrate = sort.Ptr ∷ []
 wanted built.NodeId = []
-wanted _ = sort.Ptr ∷ sort.Long ∷ []
 
 -- What a built-in gives.
 abbrev pub given : Builtin → Kind
@@ -163,11 +195,19 @@ given built.MwMalloc1dlong = sort.Ptr
 given built.MwMalloc2dlong = sort.Ptr
 given built.MwLocalmalloc = sort.Ptr
 given built.MwMallocrepl = sort.Ptr
+given built.MwReplicatedInit = sort.Void
+given built.RemoteAdd = sort.Void
+given built.RemoteAnd = sort.Void
+given built.RemoteOr = sort.Void
+given built.RemoteXor = sort.Void
+given built.RemoteMin = sort.Void
+given built.RemoteMax = sort.Void
 given built.AtomicAddms = sort.Long
 given built.AtomicSwap = sort.Long
 given built.AtomicCas = sort.Long
+given built.Fence = sort.Void
+given built.Migrate = sort.Void
 given built.NodeId = sort.Long
-given _ = sort.Void
 
 -- The arguments are as many as the kinds that are wanted, and each has a kind and fits.
 abbrev pub all_fit : List Kind → List Judged → Bool
@@ -187,8 +227,10 @@ kind_if false kind = None
 
 -- The kind of a call of what a name stands for.
 abbrev pub call_kind : Option Entity → List Judged → Option Kind
+call_kind None args = None
+call_kind (Some (local _)) args = None
+call_kind (Some (global _)) args = None
 call_kind (Some (function f)) args = kind_if (all_fit f.params args) (counted f.result)
-call_kind _ args = None
 
 -- A format has as many words as there are arguments.
 abbrev pub counts : Option (List Part) → ℕ → Bool

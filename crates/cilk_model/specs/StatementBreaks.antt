@@ -8,12 +8,12 @@ use Rattle.cilk_ast.specs.declared.kind.Kind.{Kind}
 use Rattle.cilk_ast.specs.declared.kind.Kind.TheVariants as sort
 use Rattle.cilk_ast.specs.declared.tree.TValue.{TValue}
 use Rattle.cilk_ast.specs.declared.tree.TValue.TheVariants.{Plain, Spawned}
-use Rattle.cilk_ast.specs.declared.tree.TExpr.{TExpr, Var}
+use Rattle.cilk_ast.specs.declared.tree.TExpr.{TExpr, Var, Bin', Both', Builtin', Call', Cast', Deref', Either', Index', InitAt', Number, Paren', Print', Un'}
 use Rattle.cilk_ast.specs.TreeExpression.{Paren, Deref, Index}
-use Rattle.cilk_ast.specs.declared.tree.TStmt.{TStmt, Block', Local, Eval, Assign, AddTo, Up, Down, Spawn, Break, Continue, Return, Held-TStmt-If-2, None', Row_of-TStmt as Stmts, end_of-TStmt as no_stmts, more_of-TStmt as more_stmts}
+use Rattle.cilk_ast.specs.declared.tree.TStmt.{TStmt, Block', Local, Eval, Assign, AddTo, Up, Down, Spawn, Break, Continue, Return, Held-TStmt-If-2, None', Row_of-TStmt as Stmts, end_of-TStmt as no_stmts, more_of-TStmt as more_stmts, Empty, Sync}
 use Rattle.cilk_ast.specs.TreeStatement.{If, While, For, CilkFor, Present}
 use Rattle.cilk_model.specs.FirstFault.{broken, broken_if}
-use Rattle.cilk_model.specs.Scopes.{Entity, local, global, Names, Scopes, names_in, is_twice, opened}
+use Rattle.cilk_model.specs.Scopes.{Entity, local, global, Names, Scopes, names_in, is_twice, opened, function}
 use Rattle.cilk_model.specs.Sorts.{counted, same_kind, is_word, is_value, begins_at, Judged, kind_of, judged, spawn_kind}
 use Rattle.cilk_model.specs.ExpressionBreaks.{misfit, unfit, faults_of, part_faults, spawn_faults}
 use Rattle.cilk_model.specs.Locals.{in_body, after, after_part}
@@ -22,33 +22,68 @@ use Rattle.cilk_model.specs.Locals.{in_body, after, after_part}
 
 -- A place: a name, `*e` or `e[i]`, brackets aside.
 abbrev pub is_place : TExpr → Bool
+is_place (Number _ _) = false
 is_place (Var at name) = true
-is_place (Deref at inner) = true
-is_place (Index at base index) = true
 is_place (Paren at inner) = is_place inner
-is_place _ = false
+is_place (Un' _ _ _ _) = false
+is_place (Deref at inner) = true
+is_place (Cast' _ _ _ _) = false
+is_place (Index at base index) = true
+is_place (Bin' _ _ _ _ _ _) = false
+is_place (Both' _ _ _ _ _) = false
+is_place (Either' _ _ _ _ _) = false
+is_place (Call' _ _ _ _) = false
+is_place (Builtin' _ _ _ _) = false
+is_place (Print' _ _ _ _ _) = false
+is_place (InitAt' _ _ _ _ _) = false
 
 -- A name stands for a local that is declared in fewer bodies of `cilk_for` than this.
 abbrev pub is_outer_local : ℕ → Option Entity → Bool
+is_outer_local level None = false
 is_outer_local level (Some (local l)) = nat_lt l.level level
-is_outer_local level _ = false
+is_outer_local level (Some (global _)) = false
+is_outer_local level (Some (function _)) = false
 
 -- An outer local, or the variable of the `cilk_for`, brackets aside.
 abbrev pub is_outer : Scopes → TExpr → Bool
+is_outer scopes (Number _ _) = false
 is_outer scopes (Var at name) = is_outer_local scopes.level (names_in scopes name)
 is_outer scopes (Paren at inner) = is_outer scopes inner
-is_outer scopes _ = false
+is_outer scopes (Un' _ _ _ _) = false
+is_outer scopes (Deref' _ _ _) = false
+is_outer scopes (Cast' _ _ _ _) = false
+is_outer scopes (Index' _ _ _ _ _) = false
+is_outer scopes (Bin' _ _ _ _ _ _) = false
+is_outer scopes (Both' _ _ _ _ _) = false
+is_outer scopes (Either' _ _ _ _ _) = false
+is_outer scopes (Call' _ _ _ _) = false
+is_outer scopes (Builtin' _ _ _ _) = false
+is_outer scopes (Print' _ _ _ _ _) = false
+is_outer scopes (InitAt' _ _ _ _ _) = false
 
 -- A name stands for a global.
 abbrev pub is_global : Option Entity → Bool
+is_global None = false
+is_global (Some (local _)) = false
 is_global (Some (global g)) = true
-is_global _ = false
+is_global (Some (function _)) = false
 
 -- What a spawn's target may be: a name that is no global's, brackets aside.
 abbrev pub is_target : Names → TExpr → Bool
+is_target names (Number _ _) = false
 is_target names (Var at name) = not (is_global (names name))
 is_target names (Paren at inner) = is_target names inner
-is_target names _ = false
+is_target names (Un' _ _ _ _) = false
+is_target names (Deref' _ _ _) = false
+is_target names (Cast' _ _ _ _) = false
+is_target names (Index' _ _ _ _ _) = false
+is_target names (Bin' _ _ _ _ _ _) = false
+is_target names (Both' _ _ _ _ _) = false
+is_target names (Either' _ _ _ _ _) = false
+is_target names (Call' _ _ _ _) = false
+is_target names (Builtin' _ _ _ _) = false
+is_target names (Print' _ _ _ _ _) = false
+is_target names (InitAt' _ _ _ _ _) = false
 
 -- The rules that are broken in a left side.
 abbrev pub side_faults : Scopes → TExpr → List TextFault
@@ -112,6 +147,7 @@ other_name name again = broken_if (not (bytes_eq name again.1)) fault.Unknown ag
 module _ (result : Kind) where
   abbrev mutual
     pub faults_in : TStmt → Scopes → Bool → List TextFault
+    faults_in Empty scopes inside = []
     faults_in (Block' n body) scopes inside = faults_in_all body (opened scopes) inside
     faults_in (Local at kind name value) scopes inside =
         broken_if (is_twice name scopes.around) fault.Twice at ++ initial_faults (names_in scopes) kind value
@@ -139,7 +175,7 @@ module _ (result : Kind) where
     faults_in (Continue at) scopes inside = broken_if (not inside) fault.Escapes at
     faults_in (Return at value) scopes inside =
         return_faults (names_in scopes) result at value ++ broken_if (nat_lt 0 scopes.level) fault.Escapes at
-    faults_in _ scopes inside = []
+    faults_in Sync scopes inside = []
 
     pub faults_in_part : Held-TStmt-If-2 → Scopes → Bool → List TextFault
     faults_in_part None' scopes inside = []

@@ -11,11 +11,11 @@ use Rattle.cilk_ast.specs.Kept.{has_spawn}
 use Rattle.cilk_ast.specs.declared.tree.TSpawn.{TSpawn}
 use Rattle.cilk_ast.specs.declared.tree.TValue.{TValue}
 use Rattle.cilk_ast.specs.declared.tree.TValue.TheVariants.{Plain, Spawned}
-use Rattle.cilk_ast.specs.declared.tree.TExpr.{TExpr, Var}
-use Rattle.cilk_ast.specs.TreeExpression.{Paren, Deref, Index}
+use Rattle.cilk_ast.specs.declared.tree.TExpr.{TExpr, Var, Number, Call', Builtin', Print'}
+use Rattle.cilk_ast.specs.TreeExpression.{Paren, Deref, Index, Un, Cast, Bin, Both, Either, InitAt}
 use Rattle.cilk_ast.specs.declared.tree.TStmt.{TStmt, Empty, Block', Local, Eval, Assign, AddTo, Up, Down, Spawn, Break, Continue, Return, Sync, Held-TStmt-If-2, None', Row_of-TStmt as Stmts, end_of-TStmt as no_stmts, more_of-TStmt as more_stmts}
 use Rattle.cilk_ast.specs.TreeStatement.{If, While, For, CilkFor, Present}
-use Rattle.cilk_model.specs.Scopes.{Entity, local, Names, Scopes, names_in, opened}
+use Rattle.cilk_model.specs.Scopes.{Entity, local, Names, Scopes, names_in, opened, global, function}
 use Rattle.cilk_model.specs.Locals.{in_body, after, after_part}
 use Rattle.cilk_model.specs.Sorts.{begins_at}
 use Rattle.cilk_model.specs.Copies.{Frame, named_in, copies_of}
@@ -27,14 +27,25 @@ use Rattle.cilk_model.specs.ExpressionLowering.{slot_in, address_of, index_of, e
 -- bodies of `cilk_for`.
 abbrev mutual
   pub framed : TStmt → Scopes → Frame
+  framed Empty scopes = []
   framed (Block' n body) scopes = framed_all body (opened scopes)
   framed (Local at kind name value) scopes = scopes.count ∷ []
+  framed (Eval _) scopes = []
+  framed (Assign _ _ _) scopes = []
+  framed (AddTo _ _ _) scopes = []
+  framed (Up _) scopes = []
+  framed (Down _) scopes = []
+  framed (Spawn _) scopes = []
   framed (If test yes_ no_) scopes = framed yes_ scopes ++ framed_part no_ (after yes_ scopes)
   framed (While test body) scopes = framed body scopes
   framed (For init test step body) scopes =
       let begun = after_part init (opened scopes) in
       framed_part init (opened scopes) ++ framed_part step begun ++ framed body (after_part step begun)
-  framed _ scopes = []
+  framed (CilkFor at name low second high third body) scopes = []
+  framed (Break _) scopes = []
+  framed (Continue _) scopes = []
+  framed (Return _ _) scopes = []
+  framed Sync scopes = []
 
   pub framed_part : Held-TStmt-If-2 → Scopes → Frame
   framed_part None' scopes = []
@@ -47,12 +58,23 @@ abbrev mutual
 -- How many bodies of `cilk_for` a statement has.
 abbrev mutual
   pub bodies_of : TStmt → ℕ
+  bodies_of Empty = 0
   bodies_of (Block' n body) = bodies_of_all body
+  bodies_of (Local _ _ _ _) = 0
+  bodies_of (Eval _) = 0
+  bodies_of (Assign _ _ _) = 0
+  bodies_of (AddTo _ _ _) = 0
+  bodies_of (Up _) = 0
+  bodies_of (Down _) = 0
+  bodies_of (Spawn _) = 0
   bodies_of (If test yes_ no_) = bodies_of yes_ + bodies_of_part no_
   bodies_of (While test body) = bodies_of body
   bodies_of (For init test step body) = bodies_of_part init + bodies_of_part step + bodies_of body
   bodies_of (CilkFor at name low second high third body) = suc (bodies_of body)
-  bodies_of _ = 0
+  bodies_of (Break _) = 0
+  bodies_of (Continue _) = 0
+  bodies_of (Return _ _) = 0
+  bodies_of Sync = 0
 
   pub bodies_of_part : Held-TStmt-If-2 → ℕ
   bodies_of_part None' = 0
@@ -71,15 +93,30 @@ pub data Side : Type 0 where
 
 module _ (names : Names) (frame : Frame) where
   abbrev pub variable_side : Pos → Option Entity → Side
+  variable_side at None = cell at (Word (address_of None))
   variable_side at (Some (local l)) = slot (slot_in frame l.number)
-  variable_side at other = cell at (Word (address_of other))
+  variable_side at (Some (global g)) = cell at (Word (address_of (Some (global g))))
+  variable_side at (Some (function f)) = cell at (Word (address_of (Some (function f))))
+
+  -- A left side that is no place. No text without a fault has one.
+  abbrev pub no_place : TExpr → Side
+  no_place e = cell (begins_at e) (expression names frame e)
 
   abbrev pub side : TExpr → Side
+  side (Number at value) = no_place (Number at value)
   side (Var at name) = variable_side at (names name)
   side (Paren at inner) = side inner
+  side (Un at op inner) = no_place (Un at op inner)
   side (Deref at inner) = cell at (expression names frame inner)
+  side (Cast at kind inner) = no_place (Cast at kind inner)
   side (Index at base index) = cell at (code_expr.Bin at by.Add (expression names frame base) (expression names frame index))
-  side e = cell (begins_at e) (expression names frame e)
+  side (Bin at op left right) = no_place (Bin at op left right)
+  side (Both at left right) = no_place (Both at left right)
+  side (Either at left right) = no_place (Either at left right)
+  side (Call' at name n args) = no_place (Call' at name n args)
+  side (Builtin' at which n args) = no_place (Builtin' at which n args)
+  side (Print' at text_at format n args) = no_place (Print' at text_at format n args)
+  side (InitAt at name_at name value) = no_place (InitAt at name_at name value)
 
   -- A spawn for a target.
   abbrev pub spawn_to : Option ℕ → TSpawn → Stmt
@@ -184,7 +221,15 @@ function_of name params slots body = record { name = name; params = params; slot
 module _ (name : List ℕ) where
   abbrev mutual
     pub outlines : TStmt → Scopes → Frame → ℕ → List Function
+    outlines Empty scopes frame next = []
     outlines (Block' n body) scopes frame next = outlines_all body (opened scopes) frame next
+    outlines (Local _ _ _ _) scopes frame next = []
+    outlines (Eval _) scopes frame next = []
+    outlines (Assign _ _ _) scopes frame next = []
+    outlines (AddTo _ _ _) scopes frame next = []
+    outlines (Up _) scopes frame next = []
+    outlines (Down _) scopes frame next = []
+    outlines (Spawn _) scopes frame next = []
     outlines (If test yes_ no_) scopes frame next =
         outlines yes_ scopes frame next
         ++ outlines_part no_ (after yes_ scopes) (frame ++ framed yes_ scopes) (next + bodies_of yes_)
@@ -199,7 +244,10 @@ module _ (name : List ℕ) where
         let inner = body_frame variable body scopes frame in
         function_of name (length inner) (length (inner ++ framed body (in_body variable scopes))) (statement body (in_body variable scopes) inner (suc next))
         ∷ outlines body (in_body variable scopes) inner (suc next)
-    outlines _ scopes frame next = []
+    outlines (Break _) scopes frame next = []
+    outlines (Continue _) scopes frame next = []
+    outlines (Return _ _) scopes frame next = []
+    outlines Sync scopes frame next = []
 
     pub outlines_part : Held-TStmt-If-2 → Scopes → Frame → ℕ → List Function
     outlines_part None' scopes frame next = []

@@ -8,7 +8,7 @@ use Rattle.cilk_ast.specs.declared.kind.Kind.{Kind}
 use Rattle.cilk_ast.specs.declared.kind.Kind.TheVariants as kind
 use Rattle.cilk_ast.specs.declared.tree.TExpr.{TExpr, Number, Var, Call', Builtin', Print', Row_of-TExpr as Args, end_of-TExpr as no_args, more_of-TExpr as more_args}
 use Rattle.cilk_ast.specs.TreeExpression.{Paren, Un, Deref, Cast, Index, Bin, Both, Either, InitAt}
-use Rattle.cilk_ast.specs.declared.tree.TStmt.{TStmt, Block', Local, Eval, Assign, AddTo, Up, Down, Spawn, Break, Continue, Return, Sync, None', Held-TStmt-If-2, Row_of-TStmt as Stmts, end_of-TStmt as no_stmts, more_of-TStmt as more_stmts}
+use Rattle.cilk_ast.specs.declared.tree.TStmt.{TStmt, Block', Local, Eval, Assign, AddTo, Up, Down, Spawn, Break, Continue, Return, Sync, None', Held-TStmt-If-2, Row_of-TStmt as Stmts, end_of-TStmt as no_stmts, more_of-TStmt as more_stmts, Empty, If', While', For', CilkFor'}
 use Rattle.cilk_ast.specs.TreeStatement.{If, While, For, CilkFor, Present}
 use Rattle.cilk_ast.specs.declared.tree.TSpawn.{TSpawn}
 use Rattle.cilk_ast.specs.declared.tree.TValue.{TValue}
@@ -65,8 +65,10 @@ between_operands o a b = a ++ (mark (infix_spelling o) ∷ b)
 
 -- `*`, where the kind is an address.
 abbrev pub star : Kind → Row
+star kind.Long = []
 star kind.Ptr = mark "*" ∷ []
-star _ = []
+star kind.Void = []
+star kind.Int = []
 
 abbrev mutual
   pub expression : TExpr → Row
@@ -120,6 +122,8 @@ declared k x = word "long" ∷ (star k ++ name x ∷ [])
 -- A statement without parts that are statements, and without its `;`. Each local is declared by itself, and `++` and
 -- `--` stand behind their place.
 abbrev pub simple : TStmt → Row
+simple Empty = []
+simple (Block' _ _) = []
 simple (Local at k x v) = declared k x ++ initial v
 simple (Eval e) = expression e
 simple (Assign at left v) = expression left ++ (mark "=" ∷ value v)
@@ -127,11 +131,14 @@ simple (AddTo at left e) = expression left ++ (mark "+=" ∷ expression e)
 simple (Up left) = expression left ++ mark "++" ∷ []
 simple (Down left) = expression left ++ mark "--" ∷ []
 simple (Spawn s) = spawn s
+simple (If' _ _ _ _) = []
+simple (While' _ _ _) = []
+simple (For' _ _ _ _ _) = []
+simple (CilkFor' _ _ _ _ _ _ _ _) = []
 simple (Break at) = word "break" ∷ []
 simple (Continue at) = word "continue" ∷ []
 simple (Return at e) = word "return" ∷ perhaps e
 simple Sync = word "cilk_sync" ∷ []
-simple _ = []
 
 -- The init or the step of a `for`.
 abbrev pub head : Held-TStmt-If-2 → Row

@@ -35,10 +35,23 @@ divided at (Some word) next = next word
 
 -- What an allocation asks for. Programs keep that the word is one of these four.
 abbrev pub request_of : Pos → Builtin → List ℤ → Request
+request_of at built.MwMalloc1dlong args = act.Striped (word_at args 0)
 request_of at built.MwMalloc2dlong args = act.Blocked (word_at args 0) (word_at args 1)
 request_of at built.MwLocalmalloc args = act.Local at (word_at args 0) (word_at args 1)
 request_of at built.MwMallocrepl args = act.Replicated (word_at args 0)
-request_of at _ args = act.Striped (word_at args 0)
+request_of at built.MwReplicatedInit args = act.Striped (word_at args 0)
+request_of at built.RemoteAdd args = act.Striped (word_at args 0)
+request_of at built.RemoteAnd args = act.Striped (word_at args 0)
+request_of at built.RemoteOr args = act.Striped (word_at args 0)
+request_of at built.RemoteXor args = act.Striped (word_at args 0)
+request_of at built.RemoteMin args = act.Striped (word_at args 0)
+request_of at built.RemoteMax args = act.Striped (word_at args 0)
+request_of at built.AtomicAddms args = act.Striped (word_at args 0)
+request_of at built.AtomicSwap args = act.Striped (word_at args 0)
+request_of at built.AtomicCas args = act.Striped (word_at args 0)
+request_of at built.Fence args = act.Striped (word_at args 0)
+request_of at built.Migrate args = act.Striped (word_at args 0)
+request_of at built.NodeId args = act.Striped (word_at args 0)
 
 -- Makes an action and goes on with the word of its answer.
 abbrev pub asks : Action → (ℤ → Acts) → Acts

@@ -6,7 +6,7 @@ use Rattle.word_ops.specs.declared.rules.Rules.TheVariants.{Loose, Checked}
 use Rattle.word_ops.specs.declared.step.Step.{Step}
 use Rattle.word_ops.specs.declared.step.Entry.{Entry}
 use Rattle.word_ops.specs.declared.ending.End.{End}
-use Rattle.word_ops.specs.declared.ending.End.TheVariants.{Done}
+use Rattle.word_ops.specs.declared.ending.End.TheVariants.{Done, Trap, Spent}
 use Rattle.word_ops.specs.declared.traffic.Cell.{Cell}
 use Rattle.word_ops.specs.declared.traffic.Traffic.{Traffic}
 use Rattle.word_ops.specs.Ending.{line, ending_line}
@@ -43,7 +43,8 @@ when wanted text = if wanted then text else []
 -- What follows the ending of a run that is done: the words, then the report.
 abbrev pub results_text : Wanted → List Cell → Traffic → End → List ℕ
 results_text wanted cells traffic (Done value) = when wanted.memory (words_text cells) ++ when wanted.report (report_of traffic)
-results_text wanted cells traffic _ = []
+results_text wanted cells traffic (Trap kind pos name) = []
+results_text wanted cells traffic (Spent nodelet cause) = []
 
 -- The line of nodelet k's counters: the entries that it kept, the turns that it served and the operations that
 -- were applied at it.
