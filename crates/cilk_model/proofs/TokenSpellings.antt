@@ -14,7 +14,7 @@ use Rattle.cilk_model.specs.declared.lexing.Spot.{Spot}
 use Rattle.cilk_model.specs.Lexemes.{spelling_of, lexeme, lexeme_of, lexemes_of}
 use Rattle.cilk_model.specs.Pieces.{piece_at}
 use Rattle.cilk_model.specs.Tokens.{behind, token, Cut, uncut, skipped, found, Tokens, cut_whole}
-use Rattle.cilk_model.specs.Spellings.{is_spelled, is_finish, IsTokenOf, FinishIsLast, is_end, EndsOnce}
+use Rattle.cilk_model.specs.Spellings.{is_spelled, is_finish, IsTokenOf, FinishIsLast}
 use Rattle.cilk_model.proofs.PieceSpellings.{Spelled, piece_spelled}
 use Rattle.cilk_model.proofs.OneCut.{ahead-at, skipped_fits, found_fits}
 
@@ -67,19 +67,3 @@ tokens_spelled text tokens (cut_whole {tokens = front} spot cut ends) =
 pub finish_is_last : (text : List ℕ) (tokens : List Token) → Tokens text tokens → FinishIsLast tokens
 finish_is_last text tokens (cut_whole {tokens = front} spot cut ends) =
     record { front = front; last = token Finish spot 0; parts = refl; finish = refl; others = cut_unfinished cut }
-
-end_by_kind : (kind : TokenKind) (at : Pos) (spelling : List ℕ) → is_finish kind ≡ false → is_end (lexeme kind at spelling) ≡ false
-end_by_kind kinds.Name at spelling unlike = refl
-end_by_kind kinds.Word at spelling unlike = refl
-end_by_kind kinds.Literal at spelling unlike = refl
-end_by_kind kinds.Text at spelling unlike = refl
-end_by_kind kinds.Mark at spelling unlike = refl
-end_by_kind kinds.Finish at spelling unlike = unlike
-
-pub lexemes_end_once : (text : List ℕ) (tokens : List Token) → Tokens text tokens → EndsOnce (lexemes_of text tokens)
-lexemes_end_once text tokens (cut_whole {tokens = front} spot cut ends) = record {
-  front = lexemes_of text front;
-  at = spot.pos;
-  parts = map-append (lexeme_of text) front (token Finish spot 0 ∷ []);
-  others = All-map (λ l. is_end l ≡ false) (lexeme_of text) front (λ k d below. end_by_kind (get_or front k d).kind (get_or front k d).pos (spelling_of text (get_or front k d)) (cut_unfinished cut k d below));
-}

@@ -1,13 +1,12 @@
 -- How the tokens of a text are spelled.
 use Rattle.std.specs.Prelude.{◌≡◌, ◌≤◌, ℕ, List, ◌∷◌, [], ◌++◌, length, get_or, Bool, true, false, not, ◌&&◌, ◌||◌, ◌==◌, nat_le, is_some, All}
-use Rattle.word_ops.specs.declared.place.Pos.{Pos}
 use Rattle.cilk_ast.specs.declared.token.Token.{Token}
 use Rattle.cilk_ast.specs.declared.token.TokenKind.{TokenKind}
 use Rattle.cilk_ast.specs.declared.token.TokenKind.TheVariants.{Name, Word, Literal, Text, Mark, Finish}
 use Rattle.cilk_model.specs.Literals.{literal_value}
 use Rattle.cilk_model.specs.Words.{is_one_of, reserved_words}
 use Rattle.cilk_model.specs.Pieces.{is_single_mark, is_double_mark}
-use Rattle.cilk_model.specs.Lexemes.{Lexeme, finish, spelling_of}
+use Rattle.cilk_model.specs.Lexemes.{spelling_of}
 
 -- A mark, of one byte or of two.
 abbrev pub is_mark : List ℕ → Bool
@@ -41,14 +40,3 @@ pub record FinishIsLast (tokens : List Token) : Type 0 where
   pub parts : tokens ≡ front ++ last ∷ []
   pub finish : last.kind ≡ Finish
   pub others : All (λ token. is_finish token.kind ≡ false) front
-
-abbrev pub is_end : Lexeme → Bool
-is_end (finish _) = true
-is_end _ = false
-
--- What is read ends with the end of the text, and it stands nowhere else.
-pub record EndsOnce (lexemes : List Lexeme) : Type 0 where
-  pub front : List Lexeme
-  pub at : Pos
-  pub parts : lexemes ≡ front ++ finish at ∷ []
-  pub others : All (λ lexeme. is_end lexeme ≡ false) front

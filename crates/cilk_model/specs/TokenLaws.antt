@@ -3,7 +3,8 @@ use Rattle.std.specs.Prelude.{◌≡◌, ℕ, List, ◌⊎◌, All}
 use Rattle.cilk_ast.specs.declared.token.Token.{Token}
 use Rattle.cilk_ast.specs.declared.fault.TextFault.{TextFault}
 use Rattle.cilk_model.specs.Tokens.{Tokens, LexicalFault}
-use Rattle.cilk_model.specs.Spellings.{IsTokenOf, FinishIsLast, EndsOnce}
+use Rattle.cilk_model.specs.Spellings.{IsTokenOf, FinishIsLast}
+use Rattle.cilk_model.specs.Syntax.{EndsOnce}
 use Rattle.cilk_model.specs.Lexemes.{lexemes_of}
 
 -- A text has at most one list of tokens.

@@ -36,5 +36,6 @@ pub mod Finishes
 pub mod Exact
 pub mod Parsed
 pub mod Unique
+pub mod TextLemmas
 mod ReadingExamples
 mod FaultExamples

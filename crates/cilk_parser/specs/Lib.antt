@@ -10,3 +10,4 @@ pub mod Refused
 pub mod NestingOf
 pub mod Spelled
 pub mod Laws
+pub mod TextLaws

@@ -1,4 +1,3 @@
 pub mod Causes
 pub mod Verdicts
 pub mod Words
-pub mod Laws

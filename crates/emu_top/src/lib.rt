@@ -4,14 +4,12 @@
 mod checking;
 mod ended;
 mod run;
-mod text_laws;
 mod texts;
 mod top;
 mod verdict;
 mod words;
 
 pub use ended::{Ended, Ran, SourceFault};
-pub use text_laws::{law_faulty_texts_spell_no_program, law_one_tree_of_a_text};
 pub use top::{emu_main, emu_plain};
 
 #[cfg(test)]

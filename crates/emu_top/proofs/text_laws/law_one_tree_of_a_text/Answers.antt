@@ -1,5 +1,0 @@
-use Rattle.emu_top.proofs.TextLemmas.{one_tree}
-use Rattle.emu_top.proofs.text_laws.law_one_tree_of_a_text.Goals as goal
-
-pub returns : goal.returns
-returns c = one_tree c.law_tokens_are_one.ensures c.law_one_tree.ensures
