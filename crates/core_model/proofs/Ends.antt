@@ -1,3 +1,5 @@
 pub mod FirstBelow
 pub mod Earliest
 pub mod TrapsTold
+pub mod TurnsLacked
+pub mod EndShown

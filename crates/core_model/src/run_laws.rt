@@ -2,7 +2,7 @@
 //! does nothing; its contract is the law.
 
 ghost use Rattle.core_model.specs.AllCells.{CellsAreAll, CellsBeyondAreZero};
-ghost use Rattle.core_model.specs.CoreEnd.{EventTrapsAtOneNodelet};
+ghost use Rattle.core_model.specs.CoreEnd.{EventTrapsAtOneNodelet, MergedEndIsShown, SerialEndIsShown};
 ghost use Rattle.core_model.specs.GoingOn.{EventGoesOn, EventsGoOn, LegalIsListed, NoneListedIsStill};
 ghost use Rattle.core_model.specs.Strands.{ContextsTravel, EventsMissNothing};
 
@@ -48,4 +48,16 @@ pub fn law_events_miss_nothing()
 /// (docs/machine.md, "The core").
 pub fn law_event_traps_at_one_nodelet()
     ensures { EventTrapsAtOneNodelet }
+{}
+
+/// Where legal events have stopped, with traps at one nodelet at most, the run has ended as the core shows,
+/// in whatever order its events were told (docs/machine.md, "The core").
+pub fn law_serial_end_is_shown()
+    ensures { SerialEndIsShown }
+{}
+
+/// Where legal events have stopped that were told by stamp and then nodelet, the run has ended as the core
+/// shows, whatever traps there were (docs/machine.md, "The core").
+pub fn law_merged_end_is_shown()
+    ensures { MergedEndIsShown }
 {}

@@ -16,7 +16,7 @@ precedes-through p q r e f = grind (arith, nat_tests, eqb_tells)
 precedes-either : (p q : Name) → same_name p q ≡ false → precedes p q ≡ false → precedes q p ≡ true
 precedes-either p q e f = grind (arith, nat_tests, eqb_tells)
 
-precedes-other : (p q : Name) → precedes p q ≡ true → p ≢ q
+pub precedes-other : (p q : Name) → precedes p q ≡ true → p ≢ q
 precedes-other p q e is = let h : precedes q q ≡ true = subst (λ (r : Name). precedes r q ≡ true) is e in grind (arith, nat_tests, eqb_tells)
 
 -- ---- contexts in order

@@ -1,5 +1,5 @@
 -- Events go on where others have led, and the list of legal events has every one of them.
-use Rattle.std.proofs.Common.{◌≡◌, ℕ, zero, suc, ◌<◌, List, [], ◌∷◌, ◌++◌, Option, Some, None, refl, sym, ap, ◌∙◌, subst, arith, Bool, true, false, ⊎_elim, map, filter, is_some, option_map, option_and_then, Contains, nat_lt, not, ◌&&◌}
+use Rattle.std.proofs.Common.{◌≡◌, ℕ, zero, suc, ◌<◌, List, [], ◌∷◌, ◌++◌, Option, Some, None, refl, sym, ap, ◌∙◌, subst, arith, Bool, true, false, map, filter, is_some, option_map, option_and_then, Contains, nat_lt, not, ◌&&◌}
 use Rattle.std.specs.Prelude.{if◌then◌else◌, ◌==◌, cond}
 use Rattle.std.proofs.lemmas.Bool.{eqb-true}
 use Rattle.std.proofs.lemmas.Bool.Decides.{nat_tests, eqb_tells}
@@ -9,17 +9,15 @@ use Rattle.word_ops.specs.declared.name.Name.{Name}
 use Rattle.word_ops.specs.Naming.{same_name}
 use Rattle.merge_law.specs.declared.event.Event.{Event}
 use Rattle.merge_law.specs.declared.event.Event.TheVariants.{Run, Take}
-use Rattle.merge_law.specs.Machine.{Raw, is_linked}
 use Rattle.merge_law.specs.Core.{After, Played, after, told_first, play}
 use Rattle.merge_law.proofs.Somes.{from_map, from_then, some_is}
 use Rattle.world_model.proofs.Names.{same_name_is}
 use Rattle.threadlet_code.specs.Running.{halt}
-use Rattle.core_model.specs.Contexts.{Context, Body, context_of}
+use Rattle.core_model.specs.Contexts.{Context, context_of}
 use Rattle.core_model.specs.Nodes.{Setup, Node}
 use Rattle.core_model.specs.Runs.{taken_up}
 use Rattle.core_model.specs.Machine.{Packet, machine_of}
 use Rattle.core_model.specs.Core.{Core, is_legal, runs_at, takes_at, legal_events}
-use Rattle.core_model.specs.Laws.{IsStill}
 use Rattle.core_model.specs.GoingOn.{EventsGoOn, EventGoesOn, LegalIsListed, NoneListedIsStill}
 use Rattle.core_model.proofs.Census.LiveStrands.{contains-first, contains-later, contains-below}
 use Rattle.core_model.proofs.Events.LegalEvent.{HasRun, HasTaken, happened}

@@ -1,5 +1,5 @@
 -- The words of nodelets that are not there are 0, in the world and in the core.
-use Rattle.std.proofs.Common.{◌≡◌, ◌≢◌, ℕ, ◌<◌, ◌≤◌, List, [], ◌∷◌, Option, Some, None, refl, sym, ap, ◌∙◌, subst, arith, Bool, true, false, not, ⊎_elim, ℤ, pos, IsTrue, option_map, option_and_then, nat_lt}
+use Rattle.std.proofs.Common.{◌≡◌, ◌≢◌, ℕ, ◌<◌, ◌≤◌, List, [], ◌∷◌, Some, refl, sym, ap, ◌∙◌, subst, arith, Bool, true, false, not, ⊎_elim, ℤ, pos, IsTrue, option_map}
 use Rattle.std.specs.Prelude.{if◌then◌else◌, ◌==◌}
 use Rattle.std.proofs.lemmas.Bool.{cases_lt}
 use Rattle.std.proofs.lemmas.Bool.Decides.{eqb_tells}
@@ -14,9 +14,9 @@ use Rattle.data_layout.specs.Address.{is_valid}
 use Rattle.data_layout.proofs.AddressLaws.{owner_of-below}
 use Rattle.world_model.specs.Action.{Action, Turn, Load, Issue, Fetch, Init, Fence, Move, Where, Print, Alloc, Spawn, Sync, End, Trap}
 use Rattle.world_model.specs.Sight.{is_bad}
-use Rattle.world_model.specs.World.{Setting, Item, Strand, World}
+use Rattle.world_model.specs.World.{Setting, Strand, World}
 use Rattle.world_model.specs.Step.{step}
-use Rattle.world_model.specs.Run.{start, run_from, run_of}
+use Rattle.world_model.specs.Run.{start, run_from}
 use Rattle.world_model.proofs.Shapes.{touched}
 use Rattle.world_model.proofs.Steps.{Acted, acted_by, Applied, applied_by}
 use Rattle.world_model.proofs.Bounds.{AllWithin, good_action, step_within, always_within}

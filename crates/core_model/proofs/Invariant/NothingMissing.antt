@@ -1,7 +1,5 @@
 -- No event meets an instruction, an operand, a slot or a target that is missing.
-use Rattle.std.proofs.Common.{◌≡◌, ℕ, zero, suc, ◌<◌, List, [], ◌∷◌, length, Option, Some, None, refl, sym, ap, ◌∙◌, subst, true, ⊎_elim, option_and_then}
-use Rattle.std.specs.Prelude.{slice_get}
-use Rattle.word_ops.specs.declared.name.Name.{Name}
+use Rattle.std.proofs.Common.{◌≡◌, ℕ, zero, suc, ◌∷◌, Some, refl, sym, ap, ◌∙◌, subst, true, ⊎_elim, option_and_then}
 use Rattle.merge_law.proofs.Somes.{some_is}
 use Rattle.threadlet_code.specs.declared.code.FuncCode.{FuncCode}
 use Rattle.threadlet_code.specs.declared.code.Code.{Code}
@@ -10,14 +8,11 @@ use Rattle.threadlet_code.specs.Naming.{slot_named, named}
 use Rattle.threadlet_code.specs.Machine.{Frame, State, Next, goes, asks, stops, stuck, step}
 use Rattle.threadlet_code.specs.Fitting.{AreSlots, FitsFrame, Fits}
 use Rattle.threadlet_code.proofs.FitLaws.{never_stuck, slots_are_there, silent_fits}
-use Rattle.world_model.specs.World.{World, strand_of}
+use Rattle.world_model.specs.World.{strand_of}
 use Rattle.world_model.specs.Run.{start}
-use Rattle.core_model.specs.Contexts.{Context, context_of}
-use Rattle.core_model.specs.Nodes.{Setup}
 use Rattle.core_model.specs.Core.{Core, start_core, setting_of}
 use Rattle.core_model.specs.Strands.{led_to, silently, MissesNothing, IsContextOf, EventsMissNothing}
 use Rattle.core_model.proofs.Invariant.Views.{view}
-use Rattle.core_model.proofs.Invariant.Statement.{Invariant}
 use Rattle.core_model.proofs.Invariant.StandingStrand.{Present, present}
 use Rattle.core_model.proofs.Packets.TravellingContexts.{travels}
 use Rattle.core_model.proofs.Events.Play.{KeptBy, play_kept}

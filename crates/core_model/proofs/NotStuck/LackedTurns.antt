@@ -20,7 +20,7 @@ use Rattle.threadlet_code.specs.Running.{halt, owed}
 use Rattle.threadlet_code.specs.Running as running
 use Rattle.core_model.specs.Contexts.{Context, context_of}
 use Rattle.core_model.specs.Nodes.{Setup, Node}
-use Rattle.core_model.specs.Runs.{Waits, way_of, sight_at, is_free, has_no_result, action_in, by_way, taken_up}
+use Rattle.core_model.specs.Runs.{Waits, way_of, sight_at, is_free, has_no_result, action_in, by_way, stays_before, taken_up}
 use Rattle.core_model.specs.Core.{Core, setting_of}
 use Rattle.core_model.proofs.Invariant.Views.{view, result_of}
 use Rattle.core_model.proofs.Invariant.StrandStates.{halted_is, halted_due, halted_step, due_is}
@@ -111,11 +111,24 @@ module _ (u : Setup) (sound : is_sound u.code ≡ true) (some : 1 ≤ u.nodelets
     next = ap action_in (halted_due u.code sound x.state) ∙ e;
   }
 
-  waits : (action : Action) → action_in (running.due u.code x.state) ≡ Some action → way_of u.nodelets u.turns seen action (is_free k v x.ticket action) ≡ Waits
-  waits action e = way_waits u k v x state (halt u.code x.state).silent (code.step u.code state) action _ (is_next action e)
-      (ap (option_and_then (λ a. by_way u k v x state (halt u.code x.state).silent (code.step u.code state) a (way_of u.nodelets u.turns seen a (is_free k v x.ticket a)))) (sym (is_next action e))
+  leaves_nothing : (action : Action) → action_in (running.due u.code x.state) ≡ Some action →
+      by_way u k v x state (halt u.code x.state).silent (code.step u.code state) action (way_of u.nodelets u.turns seen action (is_free k v x.ticket action)) ≡ None
+  leaves_nothing action e =
+      ap (option_and_then (λ a. by_way u k v x state (halt u.code x.state).silent (code.step u.code state) a (way_of u.nodelets u.turns seen a (is_free k v x.ticket a)))) (sym (is_next action e))
       ∙ ap (option_and_then (λ y. taken_up u k v y (halt u.code y.state))) (sym found)
-      ∙ run_none u c rests k q inside)
+      ∙ run_none u c rests k q inside
+
+  waits : (action : Action) → action_in (running.due u.code x.state) ≡ Some action → way_of u.nodelets u.turns seen action (is_free k v x.ticket action) ≡ Waits
+  waits action e = way_waits u k v x state (halt u.code x.state).silent (code.step u.code state) action _ (is_next action e) (leaves_nothing action e)
+
+  -- it stands right before its action: no silent instruction is left
+  pub none_silent : (action : Action) → action_in (running.due u.code x.state) ≡ Some action → (halt u.code x.state).silent ≡ 0
+  none_silent action e = by (halt u.code x.state).silent
+      (ap (by_way u k v x state (halt u.code x.state).silent (code.step u.code state) action) (sym (waits action e)) ∙ leaves_nothing action e)
+    where
+      by : (silent : ℕ) → stays_before v x state silent ≡ None → silent ≡ 0
+      by zero f = refl
+      by (suc n) f = absurd cc
 
   clear : seen.clear ≡ true
   clear = eq-eqb _ _ (ap v.under_way p.here.name ∙ (nothing_pending u c rests some w inv q p.s p.known).under_way k)

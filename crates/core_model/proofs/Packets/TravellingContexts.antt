@@ -1,8 +1,6 @@
 -- A context on a link is that of a live strand.
 use Rattle.std.proofs.Common.{◌≡◌, ℕ, zero, suc, List, [], ◌∷◌, Option, Some, None, refl, sym, ap, ◌∙◌, subst, arith, true, length, Contains}
 use Rattle.std.specs.Prelude.{if◌then◌else◌}
-use Rattle.word_ops.specs.declared.name.Name.{Name}
-use Rattle.merge_law.specs.Merge.{steps_of}
 use Rattle.merge_law.proofs.Somes.{some_is}
 use Rattle.threadlet_code.specs.Breaches.{is_sound}
 use Rattle.world_model.specs.World.{Live, Strand, World, strand_of}
