@@ -17,6 +17,7 @@ mod next;
 mod nodelet;
 mod operands;
 mod reading;
+mod records;
 mod run;
 mod sending;
 mod services;
@@ -28,6 +29,7 @@ mod tally;
 pub use core_model::Trapped;
 pub use next::Next;
 pub use nodelet::Nodelet;
+pub use records::Records;
 pub use tally::Tally;
 
 #[cfg(test)]

@@ -64,6 +64,14 @@ impl Services {
         &self.pieces
     }
 
+    /// The pieces, the first one printed first, which are moved.
+    pub fn into_pieces(self) -> List<List<u8>>
+        ensures { result ≡ self.pieces }
+    {
+        let Services { pieces, .. } = self;
+        pieces
+    }
+
     /// Serves a request for `n` words or, where it is `Blocked`, for `b` blocks of `n` words each; no other kind
     /// looks at `b`. The answer is the address of the first word, or 0 where nothing is taken or the view has no
     /// room, and then no cursor moves. Takes no memory (docs/machine.md, "Actions" and "Allocation").
