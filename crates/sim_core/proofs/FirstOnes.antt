@@ -18,7 +18,7 @@ use Rattle.threadlet_state.specs.Activations.{state_of}
 use Rattle.world_model.specs.Run.{is_turn}
 use Rattle.nodelet_core.specs.declared.nodelet.Nodelet.{Nodelet}
 use Rattle.core_model.specs.Nodes.{Setup}
-use Rattle.core_model.specs.Contexts.{context_in}
+use Rattle.nodelet_core.specs.Carried.{context_in}
 use Rattle.core_model.specs.Runs.{action_in}
 use Rattle.nodelet_core.specs.Kept.{node_of, carried_at, is_at_turn}
 use Rattle.sim_core.specs.declared.machine.Core.{Core as Kept}
