@@ -1,4 +1,4 @@
-# What the program is built from. Read by ./prove and ./emu.
+# What the program is built from. Read by ./prove, ./emu and .ci/run.
 
 # Each crate that emu_cli stands on, and emu_cli, a line each, followed by the repository's crates that it names.
 crates_below() {
@@ -41,4 +41,9 @@ sum_of_sources() {
     local places
     mapfile -t places < <(cd "$1" && sources .)
     (cd "$1" && find "${places[@]}" -type f -print0 | LC_ALL=C sort -z | xargs -0 sha256sum | sha256sum | cut -d' ' -f1)
+}
+
+# Writes down that the program which is built is proved, and from these sources.
+note_proved() {
+    sum_of_sources "$1" >"$1/crates/emu_cli/out/proved"
 }
