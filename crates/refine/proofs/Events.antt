@@ -25,7 +25,7 @@ use Rattle.refine.proofs.Counts.{traffic-same}
 
 module _ (u : Setup) (program : Program) (sound : is_sound u.code ≡ true) (implements : Implements u.code program) where
   -- the world that steps of the code lead to is known
-  known : (told : List Step) (w : World) → run_of (setting_of u) told ≡ Some w → AllTake u.code w
+  pub known : (told : List Step) (w : World) → run_of (setting_of u) told ≡ Some w → AllTake u.code w
   known told w e = run-known u program sound implements (start (setting_of u)) w told (start_known u sound) e
 
   -- ---- runs
@@ -85,7 +85,7 @@ module _ (u : Setup) (program : Program) (sound : is_sound u.code ≡ true) (imp
 
   -- ---- ends
 
-  rest-of : (w : World) → AllTake u.code w → Rest (setting_of u) w → Rest (program_on u program) w
+  pub rest-of : (w : World) → AllTake u.code w → Rest (setting_of u) w → Rest (program_on u program) w
   rest-of w all rest t = sym (step-same u program sound implements w t all) ∙ rest t
 
   spent-of : (w : World) → AllTake u.code w → TurnsAreSpent (setting_of u) w → TurnsAreSpent (program_on u program) w

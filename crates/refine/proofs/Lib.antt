@@ -4,5 +4,6 @@ pub mod Alike
 pub mod Runs
 pub mod Counts
 pub mod Events
+pub mod Records
 pub mod Upgrades
 pub mod CodeRuns

@@ -1,5 +1,5 @@
 -- A run of verified code is written again as that of the program that it implements.
-use Rattle.std.proofs.Common.{◌≡◌, ℕ, zero, suc, List, [], ◌∷◌, ◌++◌, Option, Some, None, refl, sym, ap, ◌∙◌, subst, true, unwrap_or, Result, Err}
+use Rattle.std.proofs.Common.{◌≡◌, ℕ, zero, suc, List, [], ◌∷◌, Option, Some, None, refl, ap, ◌∙◌, true, unwrap_or, Result, Err}
 use Rattle.std.specs.Option.{option_map_or}
 use Rattle.word_ops.specs.declared.name.Name.{Name}
 use Rattle.word_ops.specs.declared.rules.Rules.TheVariants.{Checked}

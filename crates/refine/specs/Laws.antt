@@ -12,6 +12,8 @@ use Rattle.codegen_expr.specs.Implements.{Implements}
 use Rattle.world_model.specs.World.{World}
 use Rattle.world_model.specs.Run.{start, run_of, transitions, end_of}
 use Rattle.world_model.specs.Traffic.{traffic_of}
+use Rattle.traffic_report.specs.declared.run.Ran.{Ran}
+use Rattle.traffic_report.specs.Runs.{IsWholeRun}
 use Rattle.core_model.specs.Nodes.{Setup, Node}
 use Rattle.core_model.specs.Machine.{Packet}
 use Rattle.core_model.specs.Core.{setting_of, census}
@@ -66,3 +68,10 @@ abbrev pub ProgramRunsEnd : Type 0
 ProgramRunsEnd = (u : Setup) (program : Program) → is_sound u.code ≡ true → Implements u.code program → 1 ≤ u.nodelets →
     (events : List Event) (played : Played Node Packet) → IsPlayed u events played → IsStill u played.core →
     IsSome (end_of (program_on u program) (steps_of played.told) (parts_of u.nodelets played.told))
+
+-- ---- records
+
+-- What is recorded of a run of the code is recorded of the same run of the program.
+abbrev pub RecordsAlike : Type 0
+RecordsAlike = (u : Setup) (program : Program) → is_sound u.code ≡ true → Implements u.code program → (ran : Ran) →
+    IsWholeRun (setting_of u) ran → IsWholeRun (program_on u program) ran

@@ -1,7 +1,7 @@
 //! What holds of a program and of code that implements it. Each function here does nothing; its contract is
 //! the law.
 
-ghost use Rattle.refine.specs.Laws.{CensusIsOfProgram, EventsAreRunOfProgram, ProgramNeverStuck, ProgramRunsEnd, RunsAlike};
+ghost use Rattle.refine.specs.Laws.{CensusIsOfProgram, EventsAreRunOfProgram, ProgramNeverStuck, ProgramRunsEnd, RecordsAlike, RunsAlike};
 
 /// The same steps are a run of verified code and of the program that it implements, to the same worlds, with
 /// the same end and the same traffic (docs/machine.md, "The core").
@@ -30,4 +30,10 @@ pub fn law_not_stuck()
 /// Where no event is legal, the program's run has an ending (docs/machine.md, "The core").
 pub fn law_runs_end()
     ensures { ProgramRunsEnd }
+{}
+
+/// What is recorded of a run of verified code is recorded of the same run of the program that it implements
+/// (docs/machine.md, "The core").
+pub fn law_records_alike()
+    ensures { RecordsAlike }
 {}

@@ -6,4 +6,4 @@ mod code_laws;
 mod laws;
 
 pub use code_laws::{law_code_not_stuck, law_code_run, law_upgrades_alike};
-pub use laws::{law_alike, law_census, law_not_stuck, law_run, law_runs_end};
+pub use laws::{law_alike, law_census, law_not_stuck, law_records_alike, law_run, law_runs_end};

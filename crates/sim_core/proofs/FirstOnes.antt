@@ -1,7 +1,7 @@
 -- The first of what the nodelets up to some number have.
 use Rattle.std.proofs.Common.{◌≡◌, ◌≢◌, ℕ, zero, suc, ◌+◌, ◌<◌, ◌⊎◌, inl, inr, List, [], ◌∷◌, ◌++◌, Option, Some, None, refl, sym, ap, ◌∙◌, arith, Bool, true, false, filter_map, is_some, add-one}
-use Rattle.std.specs.Prelude.{cond, slice_get, find, ◌==◌, option_to_list, if◌then◌else◌}
-use Rattle.std.specs.List.{best_of, cons_option, fold}
+use Rattle.std.specs.Prelude.{cond, slice_get, find, ◌==◌}
+use Rattle.std.specs.List.{cons_option}
 use Rattle.std.specs.Option.{option_or}
 use Rattle.std.proofs.lemmas.Bool.Decides.{eqb_tells}
 use Rattle.std.proofs.lemmas.List.{append-nil}

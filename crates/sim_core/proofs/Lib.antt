@@ -10,3 +10,5 @@ pub mod Runnable
 pub mod Taken
 pub mod FirstOnes
 pub mod TallyLists
+pub mod CellLists
+pub mod Recording

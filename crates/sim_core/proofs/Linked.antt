@@ -1,14 +1,13 @@
 -- The links from nodelets, by their places.
-use Rattle.std.proofs.Common.{◌≡◌, ◌≢◌, ℕ, zero, suc, ◌<◌, List, [], ◌∷◌, length, Option, Some, None, refl, sym, ap, ◌∙◌, subst, arith, Bool, true, false, ◌&&◌, not, nat_lt, is_some, drop, get_or}
+use Rattle.std.proofs.Common.{◌≡◌, ◌≢◌, ℕ, zero, suc, ◌<◌, List, [], ◌∷◌, length, Some, None, refl, sym, ap, ◌∙◌, arith, Bool, true, false, ◌&&◌, not, nat_lt, is_some, drop, get_or}
 use Rattle.std.specs.Prelude.{◌==◌, slice_get, slice_set}
-use Rattle.std.specs.List.{list_all}
 use Rattle.std.proofs.lemmas.Bool.{eqb-true}
 use Rattle.std.proofs.lemmas.Bool.Decides.{nat_tests}
 use Rattle.std.proofs.lemmas.Option.{slice_get_read}
 use Rattle.merge_law.specs.Machine.{is_linked}
 use Rattle.sim_core.specs.declared.outgoing.Outgoing.{Outgoing}
 use Rattle.sim_core.specs.declared.machine.Core.{Core as Kept}
-use Rattle.sim_core.specs.code.Links.{link_to, reaches, packets_to, has_links}
+use Rattle.sim_core.specs.code.Links.{reaches, packets_to, has_links}
 use Rattle.sim_core.specs.Kept.{packets_from}
 use Rattle.sim_core.proofs.AtPlaces.{list_all_at_place}
 

@@ -1,5 +1,5 @@
 -- Lists of what passes a test, by one more.
-use Rattle.std.proofs.Common.{◌≡◌, ℕ, suc, ◌+◌, ◌<◌, List, [], ◌∷◌, ◌++◌, length, Some, refl, sym, ap, ◌∙◌, Bool, true, false, add-one, append_assoc, take, get_or, map}
+use Rattle.std.proofs.Common.{◌≡◌, ℕ, ◌+◌, List, [], ◌∷◌, ◌++◌, Some, sym, ap, ◌∙◌, Bool, true, false, add-one, append_assoc, take, map}
 use Rattle.std.specs.Prelude.{filter, flat_map, if◌then◌else◌, slice_get}
 use Rattle.std.proofs.lemmas.List.{map-append, take_more, append-nil}
 use Rattle.std.proofs.lemmas.List.Elements.{filter-append}

@@ -1,11 +1,10 @@
 -- What a core that the code keeps is once one of its nodelets and the links from it are changed.
-use Rattle.std.proofs.Common.{◌≡◌, ℕ, zero, suc, ◌<◌, List, [], ◌∷◌, ◌++◌, length, map, Option, Some, None, Result, Ok, Err, refl, sym, ap, ◌∙◌, subst, Bool, true, false, ◌&&◌}
+use Rattle.std.proofs.Common.{◌≡◌, ℕ, zero, suc, List, [], ◌∷◌, ◌++◌, map, Option, Some, None, Result, Ok, Err, refl, sym, ap, ◌∙◌, subst, Bool, true, false, ◌&&◌}
 use Rattle.std.proofs.Math.Path.{fun_ext}
 use Rattle.std.specs.Prelude.{if◌then◌else◌, ◌==◌, slice_get, slice_set, OnOk, OnErr}
 use Rattle.std.specs.List.{list_all}
 use Rattle.std.proofs.lemmas.Bool.{eqb-true}
-use Rattle.std.proofs.lemmas.List.{append-nil, map-append, length-set}
-use Rattle.std.proofs.lemmas.List.Folds.{list_all-append}
+use Rattle.std.proofs.lemmas.List.{append-nil, map-append}
 use Rattle.std.proofs.lemmas.Option.{slice_get_within}
 use Rattle.word_ops.specs.declared.rules.Rules.{Rules}
 use Rattle.word_ops.specs.declared.step.Entry.{Entry}
@@ -25,9 +24,9 @@ use Rattle.sim_core.specs.declared.link.Link.{Link}
 use Rattle.sim_core.specs.declared.outgoing.Outgoing.{Outgoing}
 use Rattle.sim_core.specs.declared.machine.Core.{Core as Kept}
 use Rattle.core_model.specs.Core.{Core}
-use Rattle.sim_core.specs.code.Links.{packets_of, packets_to, packets_by}
+use Rattle.sim_core.specs.code.Links.{packets_to, packets_by}
 use Rattle.sim_core.specs.code.Numbered.{IsNumbered, AreNumbered}
-use Rattle.sim_core.specs.Kept.{setup_in, node_by, packets_from, core_in, link_fits, outgoing_fits, core_fits}
+use Rattle.sim_core.specs.Kept.{setup_in, node_by, packets_from, core_in, link_fits, outgoing_fits}
 use Rattle.sim_core.specs.Advanced.{SameRun, entries_in, entries_at, HasAdvanced, IsUnchanged}
 use Rattle.sim_core.proofs.AtPlaces.{list_all_by_place, list_all_at_place}
 use Rattle.core_model.proofs.Actions.Sights.{both_true}

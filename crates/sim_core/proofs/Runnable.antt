@@ -1,12 +1,11 @@
 -- A legal run at a nodelet of a core that the code keeps.
-use Rattle.std.proofs.Common.{◌≡◌, ◌≢◌, ℕ, ◌<◌, List, [], ◌∷◌, ◌++◌, length, map, Option, Some, None, Result, Ok, Err, refl, sym, ap, ◌∙◌, subst, arith, Bool, true, false, ◌&&◌, nat_lt, is_some, option_map, get_or}
+use Rattle.std.proofs.Common.{◌≡◌, ◌≢◌, ℕ, ◌<◌, List, [], ◌++◌, Option, Some, None, Result, Ok, Err, refl, sym, ap, ◌∙◌, subst, arith, Bool, true, false, ◌&&◌, nat_lt, is_some, option_map, get_or}
 use Rattle.std.specs.Prelude.{if◌then◌else◌, ◌==◌, slice_get, slice_set, OnErr}
 use Rattle.std.specs.List.{list_all}
 use Rattle.std.proofs.lemmas.Bool.{eqb-true, lt-ltb}
 use Rattle.std.proofs.lemmas.Bool.Decides.{nat_tests}
-use Rattle.std.proofs.lemmas.List.{append-nil, length-set}
+use Rattle.std.proofs.lemmas.List.{append-nil}
 use Rattle.std.proofs.lemmas.List.Folds.{list_all-append}
-use Rattle.std.proofs.lemmas.List.Sums.{list_all-from_AllPass}
 use Rattle.std.proofs.lemmas.Option.{slice_get_read}
 use Rattle.word_ops.specs.declared.name.Name.{Name}
 use Rattle.merge_law.specs.declared.event.Event.TheVariants.{Run}
@@ -16,9 +15,8 @@ use Rattle.threadlet_code.specs.declared.code.Code.{Code}
 use Rattle.threadlet_state.specs.declared.packet.Packet as sent
 use Rattle.nodelet_core.specs.declared.nodelet.Nodelet.{Nodelet}
 use Rattle.nodelet_core.specs.declared.next.Next.TheVariants.{Goes}
-use Rattle.core_model.specs.Nodes.{Node}
 use Rattle.core_model.specs.Runs.{run}
-use Rattle.core_model.specs.Machine.{Packet, machine_of}
+use Rattle.core_model.specs.Machine.{machine_of}
 use Rattle.nodelet_core.specs.Kept.{node_of, setup_of, packet_in, all_fit, packet_fits, next_by, SameSettings}
 use Rattle.nodelet_core.specs.Kept as nodelet
 use Rattle.nodelet_core.specs.Left.{HasRun}
@@ -32,7 +30,7 @@ use Rattle.sim_core.proofs.AtPlaces.{list_all_at_place}
 use Rattle.core_model.proofs.Actions.Sights.{both_true}
 use Rattle.sim_core.proofs.Linked.{all_reached}
 use Rattle.sim_core.proofs.Legal.{run_legal, run_legal_there, numbered_there, setup_there, node_there}
-use Rattle.sim_core.proofs.Outcomes.{packets_fit, put_at, sent_on, fits_after, still, advanced}
+use Rattle.sim_core.proofs.Outcomes.{packets_fit, sent_on, fits_after, still, advanced}
 
 goes_on : {A : Type 0} (o : Option A) → is_some o ≡ true → next_by o ≡ Goes
 goes_on None e = absurd (let wrong : false ≡ true = e in cc)

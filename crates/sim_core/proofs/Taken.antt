@@ -1,5 +1,5 @@
 -- A legal take at a nodelet of a core that the code keeps.
-use Rattle.std.proofs.Common.{◌≡◌, ◌≢◌, ℕ, ◌<◌, List, [], ◌∷◌, ◌++◌, length, map, Option, Some, None, refl, sym, ap, ◌∙◌, subst, arith, Bool, true, false, ◌&&◌, nat_lt, is_some, option_map, get_or, drop}
+use Rattle.std.proofs.Common.{◌≡◌, ◌≢◌, ℕ, ◌<◌, List, [], ◌∷◌, ◌++◌, map, Some, None, refl, sym, ap, ◌∙◌, subst, arith, Bool, true, false, ◌&&◌, nat_lt, is_some, option_map, get_or, drop}
 use Rattle.std.specs.Prelude.{if◌then◌else◌, ◌==◌, slice_get, slice_set}
 use Rattle.std.specs.List.{list_all}
 use Rattle.std.proofs.lemmas.Bool.{eqb-true}
@@ -16,8 +16,8 @@ use Rattle.nodelet_core.specs.declared.nodelet.Nodelet.{Nodelet}
 use Rattle.nodelet_core.specs.Carried.{body_in}
 use Rattle.core_model.specs.Nodes.{Node}
 use Rattle.core_model.specs.Takes.{can_come}
-use Rattle.core_model.specs.Machine.{Packet, machine_of}
-use Rattle.nodelet_core.specs.Kept.{node_of, setup_of, packet_in, all_fit, body_fits, packet_fits}
+use Rattle.core_model.specs.Machine.{machine_of}
+use Rattle.nodelet_core.specs.Kept.{node_of, packet_in, body_fits, packet_fits}
 use Rattle.nodelet_core.specs.Left.{HasTaken, IsAwaited}
 use Rattle.sim_core.specs.declared.outgoing.Outgoing.{Outgoing}
 use Rattle.sim_core.specs.declared.machine.Core.{Core as Kept}
@@ -27,8 +27,8 @@ use Rattle.sim_core.specs.Kept.{setup_in, packets_from, core_in, outgoing_fits, 
 use Rattle.sim_core.specs.Advanced.{SameRun, HasAdvanced, IsReached}
 use Rattle.core_model.proofs.Actions.Sights.{both_true}
 use Rattle.core_model.proofs.Packets.FirstCanCome.{first_can_come}
-use Rattle.sim_core.proofs.Linked.{Ends, ends_of, at_changed, at_other, first_and_rest, outgoing_there, packets_there}
-use Rattle.sim_core.proofs.Legal.{take_legal, first_to_take_there, numbered_there, setup_there, node_there}
+use Rattle.sim_core.proofs.Linked.{Ends, ends_of, at_changed, at_other, first_and_rest, no_first, outgoing_there, packets_there}
+use Rattle.sim_core.proofs.Legal.{take_legal, none_to_take_there, first_to_take_there, numbered_there, setup_there, node_there}
 use Rattle.sim_core.proofs.Outcomes.{differ, packets_fit, fit_by_packets, put_at, sent_on, advanced}
 use Rattle.sim_core.proofs.Runnable.{links_fit, sent_after}
 
@@ -49,6 +49,11 @@ module _ (code : Code) (kept : Kept) (origin k : ℕ) (legal : is_legal (setup_i
 
   pub taker_links_were : (out1 outk : Outgoing) → outk ≡ get_or (slice_set kept.links.items origin out1) k outk → slice_get kept.links.items k ≡ Some outk
   taker_links_were out1 outk read = sym (at_other kept.links.items origin k out1 (λ e. take_ends.other (sym e))) ∙ taker_links out1 outk read
+
+  -- A packet waits there.
+  pub one_waits : {A : Type 0} (out : Outgoing) → out ≡ get_or kept.links.items origin out → slice_get (packets_to out k) 0 ≡ None → A
+  one_waits out read none =
+      let e : false ≡ true = sym (none_to_take_there code kept origin k take_linked (packets_there kept origin k take_linked out read ∙ no_first (packets_to out k) none)) ∙ legal in cc
 
   module _ (out : Outgoing) (read : out ≡ get_or kept.links.items origin out) (p : sent.Packet) (first : Some p ≡ slice_get (packets_to out k) 0) where
     abbrev rest : List sent.Packet

@@ -3,11 +3,13 @@
 #![tactic(auto)]
 
 mod advancing;
+mod cells;
 mod link;
 mod machine;
 mod naming;
 mod outcome;
 mod outgoing;
+mod ran;
 mod starting;
 mod traffic;
 

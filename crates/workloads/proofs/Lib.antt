@@ -1,2 +1,3 @@
 mod FilledLemmas
+mod ShortTexts
 mod WorkloadExamples

@@ -6,10 +6,11 @@ use std::alloc::{AllocError, Global};
 use word_ops::{List, push_decimal};
 
 /// The source text of a workload (docs/language.md, "Workloads"). The number gives its kind, its
-/// size and its values.
+/// size and its values. It has 1048576 bytes at most.
 pub fn text(alloc: Global, number: u64) -> Result<List<u8>, AllocError>
     requires { number ≤ 1000000 }
-    ensures { IfOk result (λ text. text ≡ workload_text number) }
+    ensures text { IfOk result (λ text. text ≡ workload_text number) }
+    ensures short { IfOk result (λ text. length text ≤ 1048576) }
 {
     let mut text = List::new(alloc);
     let mut rest = template(number).as_bytes();

@@ -1,9 +1,9 @@
-use Rattle.std.proofs.Common.{◌≡◌, ◌++◌, ◌∷◌, [], ◌<◌, length, ℕ, List, ap, ◌∙◌, sym, arith, append_assoc, map, refl}
+use Rattle.std.proofs.Common.{◌≡◌, ◌++◌, ◌∷◌, [], ◌<◌, length, ℕ, ap, ◌∙◌, sym, arith, append_assoc, map}
 use Rattle.std.specs.Prelude.{slice_index}
 use Rattle.word_ops.specs.Report.{below}
 use Rattle.core_model.specs.Nodes.{Node}
 use Rattle.sim_core.specs.Kept.{core_in}
-use Rattle.sim_core.proofs.Legal.{node_there, numbered_there}
+use Rattle.sim_core.proofs.Legal.{node_there}
 use Rattle.sim_core.proofs.TallyLists.{map_more, counted_there}
 use Rattle.sim_core.proofs.machine.Core.add_moves_from.Goals as goal
 

@@ -1,7 +1,6 @@
-use Rattle.std.proofs.Common.{◌≡◌, ◌++◌, List, Bool, sym, ap, ◌∙◌, ℕ, refl, map, take, length, arith, true, false}
+use Rattle.std.proofs.Common.{◌≡◌, ◌++◌, List, sym, ap, ◌∙◌, ℕ, refl, map, arith}
 use Rattle.std.proofs.lemmas.List.{take_all}
-use Rattle.std.specs.Prelude.{filter, slice_get, [], ◌∷◌, if◌then◌else◌}
-use Rattle.word_ops.specs.Report.{below}
+use Rattle.std.specs.Prelude.{filter, [], ◌∷◌, if◌then◌else◌}
 use Rattle.threadlet_code.specs.declared.code.Code.{Code}
 use Rattle.threadlet_state.specs.declared.context.Context as carried
 use Rattle.core_model.specs.Contexts.{Context}
@@ -11,7 +10,7 @@ use Rattle.merge_law.specs.declared.event.Event.{Event}
 use Rattle.merge_law.specs.declared.event.Event.TheVariants as event
 use Rattle.core_model.specs.Core.{is_legal}
 use Rattle.sim_core.specs.Kept.{setup_in, node_by, core_in}
-use Rattle.sim_core.proofs.Listing.{listed_to, listed_below, listed_on, passed, left_out}
+use Rattle.sim_core.proofs.Listing.{listed_to, listed_on, passed, left_out}
 use Rattle.sim_core.proofs.machine.Core.add_runs.Goals as goal
 use Rattle.sim_core.proofs.machine.Core.add_runs.Goals.{then-legal+in_ok-add, else-legal}
 

@@ -1,11 +1,10 @@
-use Rattle.std.proofs.Common.{◌≡◌, ◌++◌, List, Bool, sym, ap, ◌∙◌, map, take, length, arith, true, false}
-use Rattle.std.specs.Prelude.{filter, [], ◌∷◌, if◌then◌else◌}
-use Rattle.word_ops.specs.Report.{below}
+use Rattle.std.proofs.Common.{◌≡◌, ◌++◌, sym, ◌∙◌}
+use Rattle.std.specs.Prelude.{[], ◌∷◌, if◌then◌else◌}
 use Rattle.merge_law.specs.declared.event.Event.{Event}
 use Rattle.merge_law.specs.declared.event.Event.TheVariants as event
 use Rattle.core_model.specs.Core.{is_legal}
 use Rattle.sim_core.specs.Kept.{setup_in, core_in}
-use Rattle.sim_core.proofs.Listing.{listed_to, listed_below, listed_on, passed, left_out}
+use Rattle.sim_core.proofs.Listing.{listed_below, listed_on, passed, left_out}
 use Rattle.sim_core.proofs.machine.Core.add_takes.Goals as goal
 use Rattle.sim_core.proofs.machine.Core.add_takes.Goals.{then-legal+in_ok-add, else-legal}
 

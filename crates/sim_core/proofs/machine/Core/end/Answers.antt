@@ -1,4 +1,4 @@
-use Rattle.std.proofs.Common.{◌≡◌, ap, ◌∙◌, sym, ℕ, Option, Some, None, rules, w64, to_z, of_z, to_z-of_z}
+use Rattle.std.proofs.Common.{◌≡◌, ap, ◌∙◌, sym, ℕ, Option, Some, None, rules, w64, to_z-of_z}
 use Rattle.std.specs.Prelude.{option_map, unwrap_or, ℤ}
 use Rattle.std.specs.Option.{option_or}
 use Rattle.word_ops.specs.declared.ending.End.{End}

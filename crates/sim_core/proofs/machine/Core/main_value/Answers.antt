@@ -1,4 +1,4 @@
-use Rattle.std.proofs.Common.{◌≡◌, ◌<◌, ap, ◌∙◌, sym, arith, ℕ, is_some, true, Option, None, Some, refl, false}
+use Rattle.std.proofs.Common.{◌≡◌, ◌<◌, ap, ◌∙◌, sym, arith, ℕ, is_some}
 use Rattle.std.specs.Prelude.{filter_map, slice_get}
 use Rattle.word_ops.specs.Report.{below}
 use Rattle.sim_core.specs.Kept.{core_in}

@@ -1,7 +1,6 @@
-use Rattle.std.proofs.Common.{◌≡◌, ℕ, List, [], Option, None, Some, refl}
+use Rattle.std.proofs.Common.{◌≡◌, ℕ, [], Option, None, Some, refl}
 use Rattle.std.specs.Prelude.{slice_get}
 use Rattle.nodelet_core.specs.declared.nodelet.Nodelet.{Nodelet}
-use Rattle.sim_core.specs.code.Numbered.{AreFirst}
 use Rattle.sim_core.specs.Advanced.{entries_in}
 use Rattle.sim_core.proofs.FirstCore.{first_core, first_fits, first_numbered, clear_fits}
 use Rattle.sim_core.proofs.Playing.{reached_first}

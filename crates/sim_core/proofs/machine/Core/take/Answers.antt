@@ -1,4 +1,4 @@
-use Rattle.std.proofs.Common.{◌≡◌, ℕ, ◌∷◌, Some, refl, sym, ap, ◌∙◌}
+use Rattle.std.proofs.Common.{◌≡◌, ◌∷◌, Some, refl, sym, ap, ◌∙◌}
 use Rattle.std.specs.Prelude.{◌==◌, slice_get, true}
 use Rattle.std.specs.List.{list_all}
 use Rattle.std.proofs.lemmas.List.{length-set}
@@ -14,8 +14,20 @@ use Rattle.sim_core.proofs.Linked.{as_many_links}
 use Rattle.sim_core.proofs.Legal.{fits_there}
 use Rattle.sim_core.proofs.Outcomes.{all_changed, changed_numbered, packets_fit, fits_after, still}
 use Rattle.sim_core.proofs.Runnable.{reaches_others, links_fit, sent_fits}
-use Rattle.sim_core.proofs.Taken.{take_ends, taker_read, taker_links, taker_links_were, out_was, packet_stamp, taker_stamp, packet_fit, awaited, middle_fit, put_back_same, has_taken}
+use Rattle.sim_core.proofs.Taken.{one_waits, take_ends, taker_read, taker_links, taker_links_were, out_was, packet_stamp, taker_stamp, packet_fit, awaited, middle_fit, put_back_same, has_taken}
 use Rattle.sim_core.proofs.machine.Core.take.Goals as goal
+
+pub invariant_of-self : goal.invariant_of-self
+invariant_of-self c =
+    one_waits c.args.code.now.code c.args.self.now c.args.origin c.args.k c.requires.legal c.index_mut.result.now c.index_mut.ensures.value (sym c.take.ensures.first ∙ c.in_default.is)
+
+pub returns-in_default-clause-ok : goal.returns-in_default-clause-ok
+returns-in_default-clause-ok c =
+    one_waits c.args.code.now.code c.args.self.now c.args.origin c.args.k c.requires.legal c.index_mut.result.now c.index_mut.ensures.value (sym c.take.ensures.first ∙ c.in_default.is)
+
+pub returns-in_default-clause-fits : goal.returns-in_default-clause-fits
+returns-in_default-clause-fits c =
+    one_waits c.args.code.now.code c.args.self.now c.args.origin c.args.k c.requires.legal c.index_mut.result.now c.index_mut.ensures.value (sym c.take.ensures.first ∙ c.in_default.is)
 
 pub deliver-taken-requires-clause-stamp : goal.deliver-taken-requires-clause-stamp
 deliver-taken-requires-clause-stamp c =

@@ -1,12 +1,7 @@
-use Rattle.std.proofs.Common.{◌≡◌, ◌++◌, ◌∷◌, [], ℕ, List, ap, ◌∙◌, sym, arith, map, length, refl, subst}
-use Rattle.std.specs.Prelude.{flat_map, slice_index}
-use Rattle.word_ops.specs.Report.{below}
-use Rattle.word_ops.specs.declared.traffic.Traffic.{Traffic}
+use Rattle.std.proofs.Common.{◌≡◌, ℕ, ap, ◌∙◌, arith, refl, subst}
 use Rattle.core_model.specs.Nodes.{Node}
 use Rattle.sim_core.specs.Kept.{core_in}
 use Rattle.sim_core.specs.code.CountedUpTo.{IsCountedUpTo}
-use Rattle.sim_core.proofs.Legal.{node_there, numbered_there}
-use Rattle.sim_core.proofs.Listing.{parts_below}
 use Rattle.sim_core.proofs.TallyLists.{row_more, number_more, same_traffic}
 use Rattle.sim_core.proofs.machine.Core.traffic.Goals as goal
 

@@ -1,7 +1,4 @@
-use Rattle.std.proofs.Common.{◌≡◌, map}
-use Rattle.std.specs.Prelude.{flat_map}
-use Rattle.word_ops.specs.Report.{below}
-use Rattle.word_ops.specs.declared.traffic.Traffic.{Traffic}
+use Rattle.std.proofs.Common.{◌≡◌}
 use Rattle.threadlet_code.specs.declared.code.Code.{Code}
 use Rattle.sim_core.specs.Kept.{core_in}
 use Rattle.sim_core.specs.code.CountedUpTo.{IsCountedUpTo}

@@ -1,6 +1,4 @@
-use Rattle.std.proofs.Common.{◌≡◌, ◌<◌, ap, ◌∙◌, sym, arith, ℕ}
-use Rattle.std.specs.Prelude.{find}
-use Rattle.word_ops.specs.Report.{below}
+use Rattle.std.proofs.Common.{◌<◌, ap, ◌∙◌, sym, ℕ}
 use Rattle.sim_core.specs.Kept.{core_in, setup_in}
 use Rattle.core_model.specs.CoreEnd.{lacks_turn_at}
 use Rattle.sim_core.proofs.Legal.{node_there, fits_there}
