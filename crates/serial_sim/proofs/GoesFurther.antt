@@ -3,21 +3,20 @@ use Rattle.std.proofs.Common.{◌≡◌, ◌≢◌, ◌≤◌, ◌<◌, ◌⊎�
 use Rattle.std.specs.List.{cons_option}
 use Rattle.std.proofs.lemmas.Bool.Decides.{eqb_tells}
 use Rattle.std.proofs.lemmas.List.Elements.{filter_map-append}
-use Rattle.std.specs.Prelude.{◌==◌, if◌then◌else◌, map, filter, filter_map, option_to_list, option_map}
+use Rattle.std.specs.Prelude.{◌==◌, if◌then◌else◌, option_to_list}
 use Rattle.rand_pcg.specs.Lcg.{Lcg}
 use Rattle.rand_pcg.specs.Pcg.{pcg32}
 use Rattle.word_ops.specs.declared.step.Step.{Step}
-use Rattle.word_ops.specs.declared.step.Entry.{Entry}
 use Rattle.merge_law.specs.declared.event.Event.{Event}
 use Rattle.merge_law.specs.Machine.{Machine}
 use Rattle.merge_law.specs.Events.{Placed, nodelet_of}
 use Rattle.merge_law.specs.Core.{After, Played, advance, after, core_after}
 use Rattle.merge_law.specs.Core as merge
-use Rattle.merge_law.specs.Merge.{steps_of, entries_of, entry_of, is_of}
+use Rattle.merge_law.specs.Merge.{steps_of, entries_of}
 use Rattle.merge_law.proofs.Somes.{from_map}
 use Rattle.threadlet_code.specs.declared.code.Code.{Code}
-use Rattle.core_model.specs.Nodes.{Setup, Node}
-use Rattle.core_model.specs.Machine.{Packet, machine_of}
+use Rattle.core_model.specs.Nodes.{Setup}
+use Rattle.core_model.specs.Machine.{machine_of}
 use Rattle.sim_core.specs.declared.machine.Core.{Core as Kept}
 use Rattle.core_model.specs.Core.{Core, start_core}
 use Rattle.sim_core.specs.Kept.{setup_in, core_in}

@@ -1,6 +1,6 @@
 -- The listed events are legal.
-use Rattle.std.proofs.Common.{◌≡◌, ℕ, List, [], ◌∷◌, ◌++◌, Some, refl, sym, ap, ◌∙◌, Bool, true, false, ◌&&◌}
-use Rattle.std.specs.Prelude.{◌%◌, length, slice_get, filter, flat_map, map}
+use Rattle.std.proofs.Common.{◌≡◌, ℕ, List, [], ◌∷◌, ◌++◌, Some, refl, ap, ◌∙◌, Bool, true, false, ◌&&◌}
+use Rattle.std.specs.Prelude.{◌%◌, length, filter, flat_map, map}
 use Rattle.std.specs.List.{list_all}
 use Rattle.std.proofs.lemmas.List.Folds.{list_all-append}
 use Rattle.word_ops.specs.Report.{below}

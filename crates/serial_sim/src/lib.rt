@@ -4,5 +4,10 @@
 mod choosing;
 mod laws;
 mod playing;
+mod running;
 
 pub use laws::law_schedule;
+pub use running::run_serial;
+
+#[cfg(test)]
+mod tests;

@@ -35,7 +35,8 @@ pub(crate) fn play_out(
 ) -> Result<Left, AllocError>
     requires some { 1 ≤ n }
     requires few { n ≤ 64 }
-    ensures { IfOk result (λ left. HasGone code.now.code seed (setup_with code.now.code n turns rules) left.core left.told) }
+    ensures gone { IfOk result (λ left. HasGone code.now.code seed (setup_with code.now.code n turns rules) left.core left.told) }
+    ensures fits { IfOk result (λ left. core_fits code.now.code left.core ≡ true) }
 {
     let mut core = Core::new(alloc, n, turns, code, rules)?;
     let mut told = List::new(alloc);

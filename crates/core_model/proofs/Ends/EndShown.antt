@@ -120,7 +120,7 @@ module _ (u : Setup) (sound : is_sound u.code ≡ true) (some : 1 ≤ u.nodelets
   last_shown [] s e = ap (λ t. t == last_stamp) e
   last_shown (x ∷ xs) s e = last_at x xs ∙ ap (λ t. t == last_stamp) e
 
-  stamps_shown : spent_stamps parts ≡ stamps_end u c
+  pub stamps_shown : spent_stamps parts ≡ stamps_end u c
   stamps_shown = ap (option_map (λ k. Spent k Stamps))
       (position-find (λ k. entries_of k played.told) (is_last_stamp last_stamp) u.nodelets
       ∙ find-same (λ k. is_last_stamp last_stamp (entries_of k played.told)) (λ k. (c.nodes k).stamp == last_stamp) u.nodelets

@@ -103,7 +103,7 @@ module _ (u : Setup) where
   beside : (nodes : ℕ → Node) (node : Node) (j k : ℕ) → k < u.nodelets → u.nodelets ≤ j → nodes j ≡ start_node u j → (if j == k then node else nodes j) ≡ start_node u j
   beside nodes node j k less far first = let other : (j == k) ≡ false = grind (arith, eqb_tells) in ap (λ (t : Bool). if t then node else nodes j) other ∙ first
 
-  event_first : (c : Core) (event : Event) (a : After Node Packet) → after (machine_of u) c event ≡ Some a → AreFirst c → AreFirst a.core
+  pub event_first : (c : Core) (event : Event) (a : After Node Packet) → after (machine_of u) c event ≡ Some a → AreFirst c → AreFirst a.core
   event_first c (Run k q) a e first =
       let h : HasRun u c k q a = happened u c (Run k q) a e in
       subst (λ (y : After Node Packet). AreFirst y.core) h.is (λ j far. beside c.nodes _ j k h.inside far (first j far))

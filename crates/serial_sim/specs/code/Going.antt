@@ -1,9 +1,8 @@
 -- How far a serial run has come.
-use Rattle.std.specs.Prelude.{◌≡◌, ◌⊎◌, ℕ, List, [], ◌++◌, ◌∷◌, Option, Some, None, true, false, option_to_list}
+use Rattle.std.specs.Prelude.{◌≡◌, ◌⊎◌, ℕ, List, [], ◌++◌, Option, Some, None, true, false, option_to_list}
 use Rattle.rand_pcg.specs.Lcg.{Lcg}
 use Rattle.rand_pcg.specs.Pcg.{pcg32}
 use Rattle.word_ops.specs.declared.step.Step.{Step}
-use Rattle.word_ops.specs.declared.step.Entry.{Entry}
 use Rattle.merge_law.specs.declared.event.Event.{Event}
 use Rattle.merge_law.specs.Core.{Played}
 use Rattle.merge_law.specs.Merge.{steps_of, entries_of}

@@ -1,8 +1,7 @@
-use Rattle.std.proofs.Common.{◌≡◌, ◌+◌, ◌∷◌, [], ℕ, true, false, Bool, ◌||◌, is_some, arith, refl, sym, ap, ◌∙◌, add-one, suc}
+use Rattle.std.proofs.Common.{◌≡◌, ◌+◌, ◌∷◌, [], ℕ, false, Bool, ◌||◌, is_some, arith, sym, ap, ◌∙◌, add-one}
 use Rattle.std.specs.List.{list_any}
 use Rattle.std.proofs.lemmas.List.Folds.{list_any-append}
 use Rattle.word_ops.specs.Report.{below}
-use Rattle.threadlet_code.specs.declared.code.Code.{Code}
 use Rattle.sim_core.specs.Kept.{core_in}
 use Rattle.sim_core.proofs.Legal.{node_there}
 use Rattle.core_model.proofs.NotStuck.Finds.{any_below}

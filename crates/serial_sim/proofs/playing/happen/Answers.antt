@@ -1,8 +1,7 @@
-use Rattle.std.proofs.Common.{◌≡◌, ◌∷◌, ◌++◌, [], ℕ, List, Option, refl, sym, ap, ◌∙◌}
-use Rattle.std.specs.Prelude.{option_to_list, if◌then◌else◌, ◌==◌}
+use Rattle.std.proofs.Common.{◌≡◌, ◌∷◌, ◌++◌, [], List, Option, ap, ◌∙◌}
+use Rattle.std.specs.Prelude.{option_to_list, if◌then◌else◌}
 use Rattle.std.proofs.lemmas.Result.{on_ok_weaker}
 use Rattle.word_ops.specs.declared.step.Step.{Step}
-use Rattle.word_ops.specs.declared.step.Entry.{Entry}
 use Rattle.merge_law.specs.Events.{nodelet_of}
 use Rattle.sim_core.specs.Advanced.{entries_at}
 use Rattle.serial_sim.proofs.GoesFurther.{same_number}

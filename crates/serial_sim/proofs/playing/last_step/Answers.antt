@@ -4,7 +4,7 @@ use native.Mathlib.Numerals.{unary_clauses}
 use Rattle.std.proofs.lemmas.List.{length-append}
 use Rattle.word_ops.specs.declared.step.Step.{Step}
 use Rattle.word_ops.specs.declared.step.Entry.{Entry}
-use Rattle.sim_core.specs.Advanced.{entries_at, entries_in}
+use Rattle.sim_core.specs.Advanced.{entries_in}
 use Rattle.serial_sim.proofs.playing.last_step.Goals as goal
 
 -- the last of a list

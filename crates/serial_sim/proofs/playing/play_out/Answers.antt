@@ -1,10 +1,8 @@
-use Rattle.std.proofs.Common.{◌≡◌, [], List, ℕ, Option, false, Some, refl, sym, ap, ◌∙◌, subst, true, IsTrue}
+use Rattle.std.proofs.Common.{◌≡◌, List, false, Some, refl, sym, ap, ◌∙◌, subst}
 use Rattle.rand_pcg.specs.Lcg.{Lcg}
 use Rattle.rand_pcg.specs.Pcg.{pcg32}
 use Rattle.word_ops.specs.declared.step.Step.{Step}
-use Rattle.merge_law.specs.declared.event.Event.{Event}
 use Rattle.core_model.specs.Nodes.{Setup}
-use Rattle.core_model.specs.Core.{start_core}
 use Rattle.sim_core.specs.Kept.{setup_in, core_in}
 use Rattle.sim_core.specs.code.Numbered.{setup_with}
 use Rattle.serial_sim.specs.Schedule.{picked, has_trapped}
