@@ -22,7 +22,8 @@ use Rattle.core_model.specs.Core.{Core, start_core}
 use Rattle.sim_core.specs.Kept.{setup_in, core_in}
 use Rattle.sim_core.specs.Advanced.{HasAdvanced, IsReached, entries_at}
 use Rattle.core_model.specs.Laws.{IsPlayed}
-use Rattle.sim_core.proofs.Playing.{plays_on, same_setup}
+use Rattle.core_model.proofs.Events.GoingOn.{event_goes_on}
+use Rattle.sim_core.proofs.Playing.{same_setup}
 use Rattle.core_model.specs.Rank.{rank}
 use Rattle.core_model.proofs.Rank.RankOfEvents.{events_lower_rank}
 use Rattle.threadlet_code.specs.Breaches.{is_sound}
@@ -91,7 +92,7 @@ module _ (code : Code) (seed : ℕ) (u : Setup) (before after_it : Kept) (g : Lc
       setup = same_setup code before after_it has.settings ∙ going.setup;
       events = going.events ++ event ∷ [];
       played = record { core = has.left.core; told = going.played.told ++ has.left.entry ∷ [] };
-      plays = plays_on (machine_of u) event has.left going.events (start_core u) going.played going.plays legal;
+      plays = event_goes_on u (start_core u) going.events going.played event has.left going.plays legal;
       core = has.core;
       steps = ap (λ steps. steps ++ option_to_list has.left.entry.entry.step) going.steps ∙ sym (steps_more going.played.told has.left.entry);
       entries = λ k. has.entries k ∙ ap (λ es. es ++ (if k == nodelet_of event then has.left.entry.entry ∷ [] else [])) (going.entries k)
