@@ -1,2 +1,4 @@
-pub mod RunLemmas
 pub mod CheckLemmas
+pub mod JudgeLemmas
+pub mod TrafficLemmas
+pub mod RunLemmas

@@ -1,3 +1,6 @@
-pub mod Causes
-pub mod Verdicts
 pub mod Words
+pub mod Sources
+pub mod Verdicts
+pub mod Runs
+pub mod Causes
+pub mod code

@@ -1,14 +1,6 @@
 use cilk_ast::TextFault;
 use threadlet_code::Verified;
-use word_ops::{End, List, Step};
-
-/// A run: how it ended, its steps, and the pieces of its output.
-#[derive(Debug, Drop)]
-pub struct Ran {
-    pub end: End,
-    pub told: List<Step>,
-    pub out: List<List<u8>>,
-}
+use traffic_report::Ran;
 
 /// Why a source was refused: it is too long, or its text has this fault.
 #[derive(Clone, Copy, PartialEq, Eq, Debug)]
@@ -18,7 +10,7 @@ pub enum SourceFault {
 }
 
 /// What a call came to (docs/outputs.md, "Statuses"): the status, the run where one was made, the fault
-/// where the source was refused, and the code where it was asked for.
+/// where the source was refused, and the code where it was asked for or run.
 #[derive(Debug, Drop)]
 pub struct Ended {
     pub status: u8,

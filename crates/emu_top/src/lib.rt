@@ -3,14 +3,17 @@
 
 mod checking;
 mod ended;
-mod run;
+mod judging;
+mod running;
+mod sources;
 mod texts;
 mod top;
 mod verdict;
 mod words;
 
-pub use ended::{Ended, Ran, SourceFault};
+pub use ended::{Ended, SourceFault};
 pub use top::{emu_main, emu_plain};
+pub use traffic_report::Ran;
 
 #[cfg(test)]
 mod emit_tests;

@@ -33,7 +33,10 @@ fn sink(alloc: Global, step: usize, failing: &[u64]) -> Result<MemSink, AllocErr
 
 /// The status and the bytes of these words on a text.
 pub fn answer(alloc: Global, texts: &[&str], text: &[u8]) -> Result<(u8, Vec<u8>), AllocError> {
-    let words = words(alloc, texts)?;
+    answer_to(alloc, &words(alloc, texts)?, text)
+}
+
+fn answer_to(alloc: Global, words: &Vec<String>, text: &[u8]) -> Result<(u8, Vec<u8>), AllocError> {
     let mut source = source(alloc, text, 7, &[])?;
     let mut sink = sink(alloc, 5, &[])?;
     let ended = emu_plain(alloc, words.as_slice(), &mut source, &mut sink)?;
@@ -45,28 +48,66 @@ pub fn answer(alloc: Global, texts: &[&str], text: &[u8]) -> Result<(u8, Vec<u8>
 
 #[test]
 fn a_text_is_run_from_its_bytes_to_its_bytes(rt: HostRuntime) -> Result<(), Fail> {
-    let wraps = b"int main() { printf(\"%ld\\n\", 9223372036854775807 + 1); return 0; }";
-    let declares = b"int main() { long x; return 0; }";
+    let squares =
+        b"int main() { long *a = mw_malloc1dlong(4); for (long i = 0; i < 4; i++) { a[i] = i * i; } FENCE(); long s = 0; for (long i = 0; i < 4; i++) { s += a[i]; } printf(\"%ld\\n\", s); return 0; }";
     let rows = [
-        (SUM, 0, b"14\nend: done 0\n".as_slice()),
         (
-            wraps.as_slice(),
+            ["--nodelets=1", "--report"].as_slice(),
+            squares.as_slice(),
             0,
-            b"-9223372036854775808\nend: done 0\n".as_slice(),
+            b"14\nend: done 0\ntraffic\npost 0 0 4\nnodelet 0 turns 11 applied 4\n".as_slice(),
         ),
         (
-            b"int main() { return 2 - 5; }".as_slice(),
+            ["--memory"].as_slice(),
+            b"long g; int main() { g = 5; return 0; }".as_slice(),
             0,
-            b"end: done -3\n".as_slice(),
+            b"end: done 0\nwords\n0 35184372088832 5\n".as_slice(),
         ),
-        (declares.as_slice(), 1, b"fault: 1:1 Unbuilt\n".as_slice()),
-        (b"".as_slice(), 1, b"fault: 1:1 Unbuilt\n".as_slice()),
+        (
+            ["--memory", "--report"].as_slice(),
+            b"int main() { long m = -9223372036854775807 - 1; printf(\"%ld\\n\", m / -1); return 0; }".as_slice(),
+            3,
+            b"end: trap Divide 1:67 strand 0.0\n".as_slice(),
+        ),
+        (
+            ["--turns=4"].as_slice(),
+            b"int main() { for (long i = 0; i < 3; i++) { ; } return 0; }".as_slice(),
+            4,
+            b"end: spent turns at nodelet 0\n".as_slice(),
+        ),
+        (
+            [].as_slice(),
+            b"".as_slice(),
+            1,
+            b"fault: 1:1 NoMain\n".as_slice(),
+        ),
     ];
-    for (text, status, bytes) in rows {
-        let answer = answer(rt.alloc(), &["run", "--serial", "0"], text)?;
+    for (flags, text, status, bytes) in rows {
+        let mut words = words(rt.alloc(), &["run", "--serial", "0"])?;
+        for flag in flags {
+            words.push(String::from_str(rt.alloc(), flag)?)?;
+        }
+        let answer = answer_to(rt.alloc(), &words, text)?;
         assert_eq!(rt; answer.0, status);
         assert_eq!(rt; answer.1.as_slice(), bytes);
     }
+    Ok(())
+}
+
+#[test]
+fn a_workload_needs_no_source(rt: HostRuntime) -> Result<(), Fail> {
+    let ran = b"gups 64 512\nend: done 0\n".as_slice();
+    let words = words(rt.alloc(), &["run", "--workload", "0"])?;
+    let mut source = source(rt.alloc(), SUM, 7, &[0])?;
+    let mut sink = sink(rt.alloc(), 100, &[])?;
+    let ended = emu_plain(rt.alloc(), words.as_slice(), &mut source, &mut sink)?;
+    assert_eq!(rt; ended.status, 0);
+    assert_eq!(rt; sink.bytes().as_slice(), ran);
+    let text = answer(rt.alloc(), &["gen"], b"")?;
+    assert_eq!(rt; text.0, 0);
+    let again = answer(rt.alloc(), &["run"], text.1.as_slice())?;
+    assert_eq!(rt; again.0, 0);
+    assert_eq!(rt; again.1.as_slice(), ran);
     Ok(())
 }
 
@@ -153,13 +194,12 @@ fn other_words_ask_for_nothing(rt: HostRuntime) -> Result<(), Fail> {
 
 #[test]
 fn words_that_are_not_built_ask_for_nothing(rt: HostRuntime) -> Result<(), Fail> {
-    for mode in ["gen", "replay", "audit", "exec", "time", "upgrade"] {
+    for mode in ["replay", "audit", "exec", "time", "upgrade"] {
         assert!(rt; refused(rt.alloc(), &[mode])?);
     }
-    for flag in ["--report", "--memory", "--record", "--watch"] {
+    for flag in ["--record", "--watch"] {
         assert!(rt; refused(rt.alloc(), &["run", flag])?);
     }
-    assert!(rt; refused(rt.alloc(), &["run", "--workload", "0"])?);
     Ok(())
 }
 

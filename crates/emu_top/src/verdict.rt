@@ -1,13 +1,12 @@
-ghost use Rattle.std.specs.Prelude.{◌≡◌, ◌++◌, IfOk, if◌then◌else◌};
-ghost use Rattle.std.specs.List.{concat};
+ghost use Rattle.std.specs.Prelude.{◌≡◌, IfOk, if◌then◌else◌};
 ghost use Rattle.emu_top.specs.Verdicts.{end_status as end_status_of, status_of, text_of, ran_of, fault_of, code_of};
 
-use crate::ended::{Ended, Ran, SourceFault};
+use crate::ended::{Ended, SourceFault};
 use crate::texts::fault;
 use cilk_ast::TextFault;
 use std::alloc::{AllocError, Global};
 use threadlet_code::Verified;
-use traffic_report::ending_text;
+use traffic_report::Ran;
 use word_ops::{End, List};
 
 /// What a call comes to before anything is written.
@@ -21,23 +20,19 @@ pub enum Verdict {
     TooLong,
     /// The text is refused.
     Refused(TextFault),
-    /// The text is a program: its canonical text.
+    /// The text is a program: its canonical text; or it was made, and is this.
     Printed(List<u8>),
     /// The text is a program: its code, and the text of that.
-    Emitted { code: Verified, text: List<u8> },
-    /// The text was run.
-    HasRun(Ran),
-}
-
-/// All pieces, one after the other.
-fn joined(alloc: Global, pieces: &[List<u8>]) -> Result<List<u8>, AllocError>
-    ensures { IfOk result (λ text. text ≡ concat pieces.now) }
-{
-    let mut text = List::new(alloc);
-    for piece in pieces {
-        text.extend_from_slice(piece.as_slice())?;
-    }
-    Ok(text)
+    Emitted {
+        code: Verified,
+        text: List<u8>,
+    },
+    /// The text was run: its code, the run, and what is written of it.
+    HasRun {
+        code: Verified,
+        ran: Ran,
+        text: List<u8>,
+    },
 }
 
 fn copied(alloc: Global, bytes: &[u8]) -> Result<List<u8>, AllocError>
@@ -45,15 +40,6 @@ fn copied(alloc: Global, bytes: &[u8]) -> Result<List<u8>, AllocError>
 {
     let mut text = List::new(alloc);
     text.extend_from_slice(bytes)?;
-    Ok(text)
-}
-
-fn run_text(alloc: Global, ran: &Ran) -> Result<List<u8>, AllocError>
-    ensures { IfOk result (λ text. text ≡ text_of (Verdict.HasRun ran.now)) }
-{
-    let mut text = joined(alloc, ran.out.as_slice())?;
-    let last = ending_text(alloc, ran.end)?;
-    text.extend_from_slice(last.as_slice())?;
     Ok(text)
 }
 
@@ -68,7 +54,7 @@ pub(crate) fn text(alloc: Global, verdict: &Verdict) -> Result<List<u8>, AllocEr
         Verdict::Refused(text_fault) => fault(alloc, *text_fault),
         Verdict::Printed(canonical) => copied(alloc, canonical.as_slice()),
         Verdict::Emitted { text, .. } => copied(alloc, text.as_slice()),
-        Verdict::HasRun(ran) => run_text(alloc, ran),
+        Verdict::HasRun { text, .. } => copied(alloc, text.as_slice()),
     }
 }
 
@@ -96,7 +82,11 @@ pub(crate) fn ended(verdict: Verdict, whole: bool) -> Ended
         Verdict::Refused(text_fault) => (1, None, Some(SourceFault::Text(text_fault)), None),
         Verdict::Printed(_text) => (0, None, None, None),
         Verdict::Emitted { code, text: _text } => (0, None, None, Some(code)),
-        Verdict::HasRun(ran) => (end_status(ran.end), Some(ran), None, None),
+        Verdict::HasRun {
+            code,
+            ran,
+            text: _text,
+        } => (end_status(ran.end), Some(ran), None, Some(code)),
     };
     let status = if whole { status } else { 6 };
     Ended {

@@ -1,7 +1,0 @@
-use Rattle.first_path.proofs.PrintLemmas.{one_part_more}
-use Rattle.first_path.proofs.values.bytes.Goals as goal
-
-pub loop-part-preserved : goal.loop-part-preserved
-loop-part-preserved c =
-    one_part_more c.as_slice-part-items.result.now c.as_slice-words.result.now c.loop-part.part-index c.loop-part.next c.in_ok-next.next c.loop-part.piece c.push_part.new.piece _ _
-    c.loop-part-test.true c.in_ok-next.ensures.next c.in_ok-next.ensures.piece c.loop-part.invariant
