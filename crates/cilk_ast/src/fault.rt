@@ -24,8 +24,6 @@ pub enum FaultKind {
     Escapes,
     TooMany,
     NoMain,
-    /// A form that is not built yet.
-    Unbuilt,
 }
 
 /// A fault and where it stands.

@@ -23,7 +23,6 @@ fault_name kind.AssignsOuter = codes "AssignsOuter"
 fault_name kind.Escapes = codes "Escapes"
 fault_name kind.TooMany = codes "TooMany"
 fault_name kind.NoMain = codes "NoMain"
-fault_name kind.Unbuilt = codes "Unbuilt"
 
 -- The line of a text's fault.
 abbrev pub fault_line : TextFault → List ℕ

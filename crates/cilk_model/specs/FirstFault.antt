@@ -24,7 +24,6 @@ rank_of fault.AssignsOuter = 12
 rank_of fault.Escapes = 13
 rank_of fault.TooMany = 14
 rank_of fault.NoMain = 15
-rank_of fault.Unbuilt = 16
 
 -- A place stands before another one.
 abbrev pub is_before : Pos → Pos → Bool

@@ -27,7 +27,6 @@ fn rank(kind: FaultKind) -> u8
         FaultKind::Escapes => 13,
         FaultKind::TooMany => 14,
         FaultKind::NoMain => 15,
-        FaultKind::Unbuilt => 16,
     }
 }
 

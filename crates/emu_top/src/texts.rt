@@ -36,7 +36,6 @@ fn kind_name(kind: FaultKind) -> &'static [u8]
         FaultKind::Escapes => b"Escapes",
         FaultKind::TooMany => b"TooMany",
         FaultKind::NoMain => b"NoMain",
-        FaultKind::Unbuilt => b"Unbuilt",
     }
 }
 
