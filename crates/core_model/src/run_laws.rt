@@ -4,7 +4,7 @@
 ghost use Rattle.core_model.specs.AllCells.{CellsAreAll, CellsBeyondAreZero};
 ghost use Rattle.core_model.specs.CoreEnd.{EventTrapsAtOneNodelet, MergedEndIsShown, SerialEndIsShown};
 ghost use Rattle.core_model.specs.GoingOn.{EventGoesOn, EventsGoOn, LegalIsListed, NoneListedIsStill};
-ghost use Rattle.core_model.specs.Strands.{ContextsTravel, EventsMissNothing};
+ghost use Rattle.core_model.specs.Strands.{ContextsTravel, EventsMissNothing, MainEndsLast};
 
 /// Where events lead to a core and more go on from it, or one more does, all of them lead where those do and
 /// tell of both (docs/machine.md, "The core").
@@ -42,6 +42,12 @@ pub fn law_contexts_travel()
 /// a target is missing (docs/machine.md, "The core").
 pub fn law_events_miss_nothing()
     ensures { EventsMissNothing }
+{}
+
+/// Once main of verified code has ended no strand lives, and no context is left
+/// (docs/machine.md, "The core").
+pub fn law_main_ends_last()
+    ensures { MainEndsLast }
 {}
 
 /// Where no nodelet has kept a trap, one event makes strands trap at one nodelet at most

@@ -145,7 +145,7 @@ turn_is (Some (End value)) e = absurd cc
 turn_is (Some (Trap at kind)) e = absurd cc
 
 -- only a live strand is due anything
-live_by : (t : Status) (o : Option Action) (action : Action) → due_in t o ≡ Some action → t ≡ Live
+pub live_by : (t : Status) (o : Option Action) (action : Action) → due_in t o ≡ Some action → t ≡ Live
 live_by Live o action e = refl
 live_by (Ended value) o action e = absurd cc
 live_by (Trapped kind at) o action e = absurd cc

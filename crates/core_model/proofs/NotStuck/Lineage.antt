@@ -41,16 +41,23 @@ issue_writes u w name s at op a word = go (owner_of a s.place u.nodelets == s.pl
     go true = alone w name s (with_word w (owner_of a s.place u.nodelets) a (applied op (w.cells (owner_of a s.place u.nodelets) a) word)) (with_answer s (owner_of a s.place u.nodelets) []) refl refl
     go false = alone w name s w (with_answer (with_pending s (owner_of a s.place u.nodelets) (Operation op a word at)) s.place []) refl refl
 
-fresh_strands : (w : World) (k : ℕ) (fresh : Option Extent) → (with_fresh w k fresh).strands ≡ w.strands
+pub fresh_strands : (w : World) (k : ℕ) (fresh : Option Extent) → (with_fresh w k fresh).strands ≡ w.strands
 fresh_strands w k None = refl
 fresh_strands w k (Some extent) = refl
 
-announces_children : (n : ℕ) (s : Strand) (k : ℕ) (request : Request) (fresh : Option Extent) → (announces n s k request fresh).children ≡ s.children
+pub announces_children : (n : ℕ) (s : Strand) (k : ℕ) (request : Request) (fresh : Option Extent) → (announces n s k request fresh).children ≡ s.children
 announces_children n s k request None = refl
 announces_children n s k (Local at c a) (Some extent) = refl
 announces_children n s k (Striped c) (Some extent) = refl
 announces_children n s k (Blocked b c) (Some extent) = refl
 announces_children n s k (Replicated c) (Some extent) = refl
+
+pub announces_status : (n : ℕ) (s : Strand) (k : ℕ) (request : Request) (fresh : Option Extent) → (announces n s k request fresh).status ≡ s.status
+announces_status n s k request None = refl
+announces_status n s k (Local at c a) (Some extent) = refl
+announces_status n s k (Striped c) (Some extent) = refl
+announces_status n s k (Blocked b c) (Some extent) = refl
+announces_status n s k (Replicated c) (Some extent) = refl
 
 alloc_writes : (u : Setting) (w : World) (name : Name) (s : Strand) (request : Request) (taken : Option (ℕ × ℤ)) → Writes w name s (served_with u w name s request taken)
 alloc_writes u w name s request None = alone w name s w (with_answer s (server_of u.nodelets s.place request) (pos 0 ∷ [])) refl refl
