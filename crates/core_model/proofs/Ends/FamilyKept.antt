@@ -1,5 +1,5 @@
 -- Each step of the world keeps the family together, where a strand that is due its end has no children.
-use Rattle.std.proofs.Common.{◌≡◌, ℕ, ◌⊎◌, inl, inr, List, [], ◌∷◌, ◌++◌, Option, Some, None, refl, sym, ap, ◌∙◌, subst, Bool, true, false, ⊎_elim, ℤ, pos, not, ◌&&◌, ◌||◌, is_some, option_map, option_and_then, map, unwrap_or}
+use Rattle.std.proofs.Common.{◌≡◌, ℕ, ◌⊎◌, inl, inr, List, [], ◌∷◌, Option, Some, None, refl, sym, ap, ◌∙◌, subst, Bool, true, false, ⊎_elim, ℤ, pos, not, ◌&&◌, ◌||◌, is_some, option_map, option_and_then, map, unwrap_or}
 use Rattle.std.specs.Prelude.{if◌then◌else◌, ◌==◌}
 use Rattle.std.specs.List.{list_all}
 use Rattle.std.specs.Option.{option_or}
@@ -14,7 +14,7 @@ use Rattle.mem_atomics.specs.NewWord.{applied, fetched}
 use Rattle.data_layout.specs.Address.{owner_of}
 use Rattle.data_layout.specs.Cursor.{allocated_at, cursors_after}
 use Rattle.merge_law.proofs.Somes.{some_is, swapped}
-use Rattle.world_model.specs.Action.{Action, Turn, Load, Issue, Fetch, Init, Fence, Move, Where, Print, Alloc, Spawn, Sync, End, Trap, Request, Striped, Blocked, Local, Replicated, Hint}
+use Rattle.world_model.specs.Action.{Action, Turn, Load, Issue, Fetch, Init, Fence, Move, Where, Print, Alloc, Spawn, Sync, End, Trap, Request, Hint}
 use Rattle.world_model.specs.Allocation.{server_of, taken_from}
 use Rattle.world_model.specs.Sight.{is_ready, is_leaving, place_after}
 use Rattle.world_model.specs.World.{Setting, Operation, Ended, Strand, World, is_empty, is_clear, lookup, strand_of, value_of, value_in, children_at, with_entry, with_strand, with_word, with_turn, with_piece, with_pending, with_pending_but, with_trap, with_answer}

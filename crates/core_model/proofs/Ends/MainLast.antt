@@ -1,5 +1,5 @@
 -- Once main has ended no strand lives, and no context is left.
-use Rattle.std.proofs.Common.{◌≡◌, ℕ, suc, ◌≤◌, List, [], ◌∷◌, map, length, Option, Some, None, refl, sym, ap, ◌∙◌, subst, arith, Bool, true, false, ⊎_elim, ℤ, filter, ◌⊎◌, inl, is_some, option_map, option_and_then, Contains}
+use Rattle.std.proofs.Common.{◌≡◌, ℕ, suc, ◌≤◌, List, [], ◌∷◌, map, length, Option, Some, None, refl, sym, ap, ◌∙◌, subst, arith, Bool, true, false, ℤ, filter, ◌⊎◌, inl, is_some, option_map, option_and_then, Contains}
 use Rattle.std.specs.Prelude.{if◌then◌else◌, ◌==◌, slice_get}
 use Rattle.std.proofs.lemmas.Bool.{eq-eqb}
 use Rattle.word_ops.specs.declared.place.Pos.{Pos}
@@ -14,7 +14,7 @@ use Rattle.merge_law.specs.Merge.{steps_of}
 use Rattle.merge_law.proofs.Somes.{FromMap, FromThen, from_map, from_then, some_is}
 use Rattle.world_model.specs.Action.{Action, End, Trap}
 use Rattle.world_model.specs.Activation.{word_at}
-use Rattle.world_model.specs.World.{Setting, Status, Live, Strand, World, main_name, strand_of, value_in, children_at}
+use Rattle.world_model.specs.World.{Setting, Status, Live, Strand, World, main_name, value_in, children_at}
 use Rattle.world_model.specs.Effect.{newborn}
 use Rattle.world_model.specs.Step.{last_of, due}
 use Rattle.world_model.specs.Step as world
@@ -34,7 +34,7 @@ use Rattle.core_model.specs.Nodes.{Setup, Node}
 use Rattle.core_model.specs.Runs.{action_in}
 use Rattle.core_model.specs.Machine.{Packet, machine_of}
 use Rattle.core_model.specs.Core.{Core, start_core, setting_of, census}
-use Rattle.core_model.specs.Laws.{IsPlayed, IsLiveIn, MainHasEnded}
+use Rattle.core_model.specs.Laws.{IsLiveIn}
 use Rattle.core_model.specs.Strands.{MainEndsLast}
 use Rattle.core_model.proofs.Invariant.Links.{with_first}
 use Rattle.core_model.proofs.Invariant.Views.{view}
