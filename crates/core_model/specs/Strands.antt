@@ -1,5 +1,5 @@
 -- What holds of the contexts of a core, and of the strands that live.
-use Rattle.std.specs.Prelude.{◌≡◌, ◌≢◌, ◌≤◌, ◌<◌, ◌⊎◌, ℕ, zero, suc, List, [], ◌∷◌, length, true, Option, Some, None, Contains, slice_get, option_and_then}
+use Rattle.std.specs.Prelude.{◌≡◌, ◌≢◌, ◌≤◌, ◌<◌, ◌⊎◌, ℕ, zero, suc, List, [], ◌∷◌, length, true, Option, Some, None, IsSome, Contains, slice_get, option_and_then}
 use Rattle.word_ops.specs.declared.name.Name.{Name}
 use Rattle.merge_law.specs.declared.event.Event.{Event}
 use Rattle.merge_law.specs.Core.{Played}
@@ -10,7 +10,7 @@ use Rattle.threadlet_code.specs.Breaches.{is_sound}
 use Rattle.threadlet_code.specs.Naming.{slot_named, named}
 use Rattle.threadlet_code.specs.Machine.{Frame, State, Next, goes, asks, stops, stuck, step}
 use Rattle.threadlet_code.specs.Fitting.{AreSlots}
-use Rattle.world_model.specs.World.{Setting, World}
+use Rattle.world_model.specs.World.{Setting, Strand, World, strand_of, value_in}
 use Rattle.world_model.specs.Run.{run_of}
 use Rattle.core_model.specs.Contexts.{Context, Arrival, context_of}
 use Rattle.core_model.specs.Nodes.{Setup, Node}
@@ -31,8 +31,9 @@ ContextsTravel = (u : Setup) → is_sound u.code ≡ true → 1 ≤ u.nodelets �
 
 -- ---- once main has ended
 
--- No strand lives, and no context is left.
+-- Each strand has ended, so that none lives; and no context is left.
 pub record IsOver (u : Setup) (c : Core) (w : World) : Type 0 where
+  pub all_ended : (name : Name) (s : Strand) → strand_of w name ≡ Some s → IsSome (value_in s.status)
   pub none_live : (name : Name) → IsLiveIn w name → ⊥
   pub none_left : census u c ≡ []
 

@@ -44,7 +44,7 @@ pub fn law_events_miss_nothing()
     ensures { EventsMissNothing }
 {}
 
-/// Once main of verified code has ended no strand lives, and no context is left
+/// Once main of verified code has ended each strand has, so that none lives, and no context is left
 /// (docs/machine.md, "The core").
 pub fn law_main_ends_last()
     ensures { MainEndsLast }

@@ -14,7 +14,7 @@ use Rattle.merge_law.specs.Merge.{steps_of}
 use Rattle.merge_law.proofs.Somes.{FromMap, FromThen, from_map, from_then, some_is}
 use Rattle.world_model.specs.Action.{Action, End, Trap}
 use Rattle.world_model.specs.Activation.{word_at}
-use Rattle.world_model.specs.World.{Setting, Status, Live, Strand, World, main_name, value_in, children_at}
+use Rattle.world_model.specs.World.{Setting, Status, Live, Strand, World, main_name, strand_of, value_in, children_at}
 use Rattle.world_model.specs.Effect.{newborn}
 use Rattle.world_model.specs.Step.{last_of, due}
 use Rattle.world_model.specs.Step as world
@@ -174,12 +174,15 @@ begins u = record {
     alone q s false f = absurd cc
 
 pub main_ends_last : MainEndsLast
-main_ends_last u sound some events played legal w run main = record { none_live = none_live; none_left = none_left (census u played.core) refl }
+main_ends_last u sound some events played legal w run main = record { all_ended = all_ended; none_live = none_live; none_left = none_left (census u played.core) refl }
   where
-    none_live : (name : Name) → IsLiveIn w name → ⊥
-    none_live name (s, known, live) = absurd (let z : false ≡ true = sym (ap is_some (ap value_in live)) ∙ none_lives w
+    all_ended : (name : Name) (s : Strand) → strand_of w name ≡ Some s → is_some (value_in s.status) ≡ true
+    all_ended name s known = none_lives w
         (play_family u sound some events (start_core u) (start (setting_of u)) played (starts u sound some) (begins (setting_of u)) legal w run)
-        main (names_differ (setting_of u) (steps_of played.told) w run) (lineage (setting_of u) (steps_of played.told) w run).order name s known in cc)
+        main (names_differ (setting_of u) (steps_of played.told) w run) (lineage (setting_of u) (steps_of played.told) w run).order name s known
+
+    none_live : (name : Name) → IsLiveIn w name → ⊥
+    none_live name (s, known, live) = absurd (let z : false ≡ true = sym (ap is_some (ap value_in live)) ∙ all_ended name s known in cc)
 
     none_left : (names : List Name) → census u played.core ≡ names → census u played.core ≡ []
     none_left [] e = e
