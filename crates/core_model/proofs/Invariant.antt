@@ -6,6 +6,7 @@ pub mod LatePositions
 pub mod StrandStates
 pub mod Statement
 pub mod StandingStrand
+pub mod FreeEnds
 pub mod OtherStrands
 pub mod Start
 pub mod Agreement

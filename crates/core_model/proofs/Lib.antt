@@ -9,4 +9,5 @@ pub mod Packets
 pub mod Rank
 pub mod NotStuck
 pub mod Ends
+pub mod Touched
 pub mod Examples

@@ -15,3 +15,4 @@ pub mod GoingOn
 pub mod AllCells
 pub mod CoreEnd
 pub mod Strands
+pub mod Touched

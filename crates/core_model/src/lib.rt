@@ -12,7 +12,8 @@ pub use laws::{
 };
 pub use run_laws::{
     law_cells_are_all, law_cells_beyond_are_zero, law_contexts_travel,
-    law_event_traps_at_one_nodelet, law_events_go_on, law_events_miss_nothing, law_legal_is_listed,
-    law_main_ends_last, law_merged_end_is_shown, law_serial_end_is_shown,
+    law_event_traps_at_one_nodelet, law_events_go_on, law_events_miss_nothing,
+    law_events_touch_few, law_legal_is_listed, law_main_ends_last, law_merged_end_is_shown,
+    law_others_go_on_alike, law_serial_end_is_shown,
 };
 pub use trapped::Trapped;

@@ -5,6 +5,7 @@ ghost use Rattle.core_model.specs.AllCells.{CellsAreAll, CellsBeyondAreZero};
 ghost use Rattle.core_model.specs.CoreEnd.{EventTrapsAtOneNodelet, MergedEndIsShown, SerialEndIsShown};
 ghost use Rattle.core_model.specs.GoingOn.{EventGoesOn, EventsGoOn, LegalIsListed, NoneListedIsStill};
 ghost use Rattle.core_model.specs.Strands.{ContextsTravel, EventsMissNothing, MainEndsLast};
+ghost use Rattle.core_model.specs.Touched.{EventsAreLocal, OthersGoOnAlike, OthersStand};
 
 /// Where events lead to a core and more go on from it, or one more does, all of them lead where those do and
 /// tell of both (docs/machine.md, "The core").
@@ -66,4 +67,17 @@ pub fn law_serial_end_is_shown()
 /// shows, whatever traps there were (docs/machine.md, "The core").
 pub fn law_merged_end_is_shown()
     ensures { MergedEndIsShown }
+{}
+
+/// A strand that a legal event does not touch can go on at the event's nodelet where it could before, and only
+/// there, unless the last turn was served (docs/machine.md, "The core").
+pub fn law_others_go_on_alike()
+    ensures { OthersGoOnAlike }
+{}
+
+/// A legal event leaves the contexts of strands that it does not touch, other nodelets, and links but for what it
+/// took and sent (docs/machine.md, "The core").
+pub fn law_events_touch_few()
+    ensures others { OthersStand }
+    ensures elsewhere { EventsAreLocal }
 {}

@@ -2,15 +2,14 @@
 use Rattle.std.proofs.Common.{◌≡◌, ℕ, zero, suc, ◌<◌, ◌≤◌, ◌⊎◌, inl, inr, List, [], ◌∷◌, length, Option, Some, None, refl, sym, ap, ◌∙◌, subst, arith, Bool, true, false, not, ◌&&◌, ◌||◌, ⊎_elim, is_some, option_and_then, nat_lt, ℤ}
 use Rattle.std.specs.Prelude.{◌==◌, slice_get}
 use Rattle.std.specs.List.{list_all}
-use Rattle.std.proofs.lemmas.Bool.{eqb-true, eq-eqb}
+use Rattle.std.proofs.lemmas.Bool.{eq-eqb}
 use Rattle.std.proofs.lemmas.List.Folds.{list_all-append}
 use Rattle.word_ops.specs.Report.{below}
 use Rattle.word_ops.specs.declared.name.Name.{Name}
-use Rattle.word_ops.specs.declared.ticket.Ticket.{Ticket}
 use Rattle.merge_law.proofs.Somes.{some_is}
-use Rattle.world_model.specs.Action.{Action, Turn, Load, Issue, Fetch, Init, Fence, Move, Where, Print, Alloc, Spawn, Sync, End, Trap}
+use Rattle.world_model.specs.Action.{Action, Turn, Sync}
 use Rattle.world_model.specs.Sight.{Sight, place_after, can_sync}
-use Rattle.world_model.specs.World.{Live, Strand, World, is_empty, is_clear, strand_of, value_of, value_in, children_at}
+use Rattle.world_model.specs.World.{Live, Strand, World, is_empty, is_clear, strand_of, value_of, children_at}
 use Rattle.world_model.specs.Effect.{sight_of}
 use Rattle.world_model.specs.Step.{due}
 use Rattle.threadlet_code.specs.Breaches.{is_sound}
@@ -20,13 +19,14 @@ use Rattle.threadlet_code.specs.Running.{halt, owed}
 use Rattle.threadlet_code.specs.Running as running
 use Rattle.core_model.specs.Contexts.{Context, context_of}
 use Rattle.core_model.specs.Nodes.{Setup, Node}
-use Rattle.core_model.specs.Runs.{Waits, way_of, sight_at, is_free, has_no_result, action_in, by_way, stays_before, taken_up}
+use Rattle.core_model.specs.Runs.{Waits, way_of, sight_at, is_free, action_in, by_way, stays_before, taken_up}
 use Rattle.core_model.specs.Core.{Core, setting_of}
 use Rattle.core_model.proofs.Invariant.Views.{view, result_of}
 use Rattle.core_model.proofs.Invariant.StrandStates.{halted_is, halted_due, halted_step, due_is}
 use Rattle.core_model.proofs.Invariant.Statement.{relative, relative_of, result_by, promise, IsGiven, relatives_in, results_in, returns_in, IsAway, Invariant}
 use Rattle.core_model.proofs.Invariant.StandingStrand.{Present, present}
 use Rattle.core_model.proofs.Invariant.OtherStrands.{value_by}
+use Rattle.core_model.proofs.Invariant.FreeEnds.{live_free}
 use Rattle.core_model.proofs.Actions.DueContext.{Before, childless_same, settled}
 use Rattle.core_model.proofs.Invariant.Agreement.{always_due}
 use Rattle.core_model.proofs.NotStuck.StillCore.{Rests, run_none, no_parts, nothing_pending, stands_somewhere}
@@ -133,39 +133,6 @@ module _ (u : Setup) (sound : is_sound u.code ≡ true) (some : 1 ≤ u.nodelets
   clear : seen.clear ≡ true
   clear = eq-eqb _ _ (ap v.under_way p.here.name ∙ (nothing_pending u c rests some w inv q p.s p.known).under_way k)
 
-  -- the result of a strand that lives is nowhere
-  no_result : (t : Ticket) → inv.tickets q ≡ Some t → (t.home == k) ≡ true → is_some (v.results t.parent t.depth t.order) ≡ false
-  no_result t has home =
-      let known : relatives_in w q ≡ Some (relative_of p.s) = ap relative p.known in
-      let parent = inv.kin.ticket q (relative_of p.s) t known p.here.live has in
-      let given : IsGiven (results_in c (parent.0).home t.parent t.depth t.order) (λ a. returns_in c a (parent.0).home t.parent t.depth t.order) (result_by (relatives_in w q)) =
-      subst (λ (o : Option Name). IsGiven (results_in c (parent.0).home t.parent t.depth t.order) (λ a. returns_in c a (parent.0).home t.parent t.depth t.order) (promise (relatives_in w) o)) parent.3 (inv.kin.given t.parent parent.0 parent.1 t.depth t.order) in
-      let none : result_by (relatives_in w q) ≡ None = ap result_by known ∙ ap value_in p.here.live in
-      let nothing : IsGiven (results_in c (parent.0).home t.parent t.depth t.order) (λ a. returns_in c a (parent.0).home t.parent t.depth t.order) None =
-      subst (λ (o : Option ℤ). IsGiven (results_in c (parent.0).home t.parent t.depth t.order) (λ a. returns_in c a (parent.0).home t.parent t.depth t.order) o) none given in
-      ap (λ h. is_some ((c.nodes h).results t.parent t.depth t.order)) (sym (eqb-true _ _ home) ∙ parent.2) ∙ ap is_some nothing.0
-
-  free : (ticket : Option Ticket) → x.ticket ≡ ticket → (action : Action) → is_free k v ticket action ≡ true
-  free None has action = refl
-  free (Some t) has (End value) = go (t.home == k) refl
-    where
-      go : (b : Bool) → (t.home == k) ≡ b → (not b || has_no_result v (Some t)) ≡ true
-      go false e = refl
-      go true e = ap not (no_result t (sym p.here.ticket ∙ has) e)
-  free (Some t) has Turn = refl
-  free (Some t) has (Load at a) = refl
-  free (Some t) has (Issue at op a word) = refl
-  free (Some t) has (Fetch at f a) = refl
-  free (Some t) has (Init at a word) = refl
-  free (Some t) has Fence = refl
-  free (Some t) has (Move at a) = refl
-  free (Some t) has Where = refl
-  free (Some t) has (Print bytes) = refl
-  free (Some t) has (Alloc request) = refl
-  free (Some t) has (Spawn d f args hint) = refl
-  free (Some t) has (Sync d) = refl
-  free (Some t) has (Trap at kind) = refl
-
   module _ (action : Action) (next : action_in (running.due u.code x.state) ≡ Some action) where
     is_due : due (setting_of u) p.s ≡ Some action
     is_due = due_is u sound p.s x.state action p.here.state p.here.live next
@@ -224,7 +191,7 @@ module _ (u : Setup) (sound : is_sound u.code ≡ true) (some : 1 ≤ u.nodelets
   stuck_here =
       let a = always_due u sound p.s x.state p.here.state in
       ⊎_elim (λ h. inl (for_turn a.0 a.1 h)) (λ h. inr (for_children a.0 a.1 h))
-      (waits_for u.nodelets u.turns seen a.0 (is_free k v x.ticket a.0) (held_way u.nodelets u.turns seen a.0 (is_free k v x.ticket a.0) (waits a.0 a.1) clear) clear (free x.ticket refl a.0))
+      (waits_for u.nodelets u.turns seen a.0 (is_free k v x.ticket a.0) (held_way u.nodelets u.turns seen a.0 (is_free k v x.ticket a.0) (waits a.0 a.1) clear) clear (live_free u c w inv q k x found a.0))
 
 -- so it is with each live strand
 pub lacking : (u : Setup) → is_sound u.code ≡ true → 1 ≤ u.nodelets → (c : Core) → Rests u c → (w : World) (inv : Invariant u c w) (q : Name) (s : Strand) → strand_of w q ≡ Some s → s.status ≡ Live → LacksTurn u w s ⊎ LacksChild u w s

@@ -1,0 +1,3 @@
+pub mod RunsAlike
+pub mod Untouched
+pub mod OthersAlike
