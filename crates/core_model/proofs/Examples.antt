@@ -2,3 +2,4 @@ pub mod Samples
 mod Events
 mod Counts
 mod Ranks
+mod Touched

@@ -16,7 +16,7 @@ abbrev pub stores : Setup
 stores = setup Loose (function 0 0 3 false
     (by.Turn ∷ by.Push (pos 37383395344384) ∷ by.Dup ∷ by.Push (pos 1) ∷ by.Post Store ∷ by.Dup ∷ by.Push (pos 2) ∷ by.Post Store ∷ by.Load ∷ by.Return ∷ []) ∷ [])
 
-abbrev both_issued : List Event
+abbrev pub both_issued : List Event
 both_issued = Run 0 main ∷ Run 0 main ∷ Run 0 main ∷ []
 
 -- the load waits for both acknowledgements
@@ -59,15 +59,15 @@ and_loosely_main_ends_with_0 = refl
 
 -- ---- a child that is born at nodelet 1
 
-abbrev child_elsewhere : Setup
+abbrev pub child_elsewhere : Setup
 child_elsewhere = setup Checked
     (function 0 1 2 true (by.Turn ∷ by.Push (pos 36283883716608) ∷ by.Spawn 1 (Some 0) true ∷ by.Sync ∷ by.Get 0 ∷ by.Sync ∷ by.Return ∷ [])
     ∷ function 0 0 1 false (by.Turn ∷ by.Push (pos 7) ∷ by.Return ∷ []) ∷ [])
 
-abbrev child_born : List Event
+abbrev pub child_born : List Event
 child_born = Run 0 main ∷ Run 0 main ∷ []
 
-abbrev child_over : List Event
+abbrev pub child_over : List Event
 child_over = Take 0 1 ∷ Run 1 (name 0 1) ∷ Run 1 (name 0 1) ∷ []
 
 its_parent_waits_for_the_result : steps child_elsewhere (child_born ++ child_over ++ Run 0 main ∷ []) ≡ None
