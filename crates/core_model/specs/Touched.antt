@@ -1,5 +1,5 @@
 -- Whom an event touches: no other strand can go on where it could not, or the other way round.
-use Rattle.std.specs.Prelude.{◌≡◌, ◌≢◌, ◌≤◌, ℕ, List, [], ◌∷◌, ◌++◌, drop, Bool, true, ◌&&◌, ◌==◌, nat_lt, if◌then◌else◌, Option, Some, None, is_some, Contains}
+use Rattle.std.specs.Prelude.{◌≡◌, ◌≢◌, ◌≤◌, ℕ, List, [], ◌∷◌, ◌++◌, drop, Bool, true, ◌&&◌, ◌==◌, nat_lt, if◌then◌else◌, Option, Some, None, is_some, option_and_then, Contains}
 use Rattle.word_ops.specs.declared.name.Name.{Name}
 use Rattle.word_ops.specs.declared.ticket.Ticket.{Ticket}
 use Rattle.merge_law.specs.declared.event.Event.{Event}
@@ -10,7 +10,7 @@ use Rattle.threadlet_code.specs.Breaches.{is_sound}
 use Rattle.core_model.specs.Contexts.{Context, Body, Arrival, Issued, Ack, Returned, context_of}
 use Rattle.core_model.specs.Nodes.{Setup, Node}
 use Rattle.core_model.specs.Effects.{next_name}
-use Rattle.core_model.specs.Runs.{run}
+use Rattle.core_model.specs.Runs.{has_no_result, run}
 use Rattle.core_model.specs.Machine.{Packet, machine_of}
 use Rattle.core_model.specs.Core.{Core}
 use Rattle.core_model.specs.Laws.{IsPlayed}
@@ -64,13 +64,24 @@ abbrev pub can_go_on : Setup → Core → ℕ → Name → Bool
 can_go_on u c k q = is_some (run u k (c.nodes k) q)
 
 -- In a core to which legal events led, a strand that a legal event does not touch can go on at the event's nodelet if
--- and only if it could before, unless the event served the nodelet's last turn. (In other cores two strands can have one
--- ticket, and then the end of the one holds up that of the other.)
+-- and only if it could before, unless the event served the nodelet's last turn. (In other cores two strands can have
+-- one ticket, and then the end of the one holds up that of the other.)
 abbrev pub OthersGoOnAlike : Type 0
 OthersGoOnAlike = (u : Setup) → is_sound u.code ≡ true → 1 ≤ u.nodelets → (events : List Event) (played : Played Node Packet) → IsPlayed u events played →
     (event : Event) (left : After Node Packet) → after (machine_of u) played.core event ≡ Some left →
     has_turns u left.core (nodelet_of event) ≡ has_turns u played.core (nodelet_of event) →
     (q : Name) → IsOther played.core event q → can_go_on u left.core (nodelet_of event) q ≡ can_go_on u played.core (nodelet_of event) q
+
+-- The result that the context of a name is to bring is not kept at nodelet k yet, or the context is not there.
+abbrev pub lacks_result : Core → ℕ → Name → Bool
+lacks_result c k q = has_no_result (c.nodes k) (option_and_then (λ x. x.ticket) (context_of q (c.nodes k).contexts))
+
+-- So it is in any core where besides its own result is kept there after the event if and only if it was before.
+abbrev pub OthersGoOnUnlessHeld : Type 0
+OthersGoOnUnlessHeld = (u : Setup) (c : Core) (event : Event) (left : After Node Packet) → after (machine_of u) c event ≡ Some left →
+    has_turns u left.core (nodelet_of event) ≡ has_turns u c (nodelet_of event) →
+    (q : Name) → IsOther c event q → lacks_result left.core (nodelet_of event) q ≡ lacks_result c (nodelet_of event) q →
+    can_go_on u left.core (nodelet_of event) q ≡ can_go_on u c (nodelet_of event) q
 
 -- In any core, the event leaves its context at that nodelet as it was.
 abbrev pub OthersStand : Type 0

@@ -5,7 +5,7 @@ ghost use Rattle.core_model.specs.AllCells.{CellsAreAll, CellsBeyondAreZero};
 ghost use Rattle.core_model.specs.CoreEnd.{EventTrapsAtOneNodelet, MergedEndIsShown, SerialEndIsShown};
 ghost use Rattle.core_model.specs.GoingOn.{EventGoesOn, EventsGoOn, LegalIsListed, NoneListedIsStill};
 ghost use Rattle.core_model.specs.Strands.{ContextsTravel, EventsMissNothing, MainEndsLast};
-ghost use Rattle.core_model.specs.Touched.{EventsAreLocal, OthersGoOnAlike, OthersStand};
+ghost use Rattle.core_model.specs.Touched.{EventsAreLocal, OthersGoOnAlike, OthersGoOnUnlessHeld, OthersStand};
 
 /// Where events lead to a core and more go on from it, or one more does, all of them lead where those do and
 /// tell of both (docs/machine.md, "The core").
@@ -69,10 +69,12 @@ pub fn law_merged_end_is_shown()
     ensures { MergedEndIsShown }
 {}
 
-/// A strand that a legal event does not touch can go on at the event's nodelet where it could before, and only
-/// there, unless the last turn was served (docs/machine.md, "The core").
+/// A strand that a legal event does not touch can go on at the event's nodelet if and only if it could before,
+/// unless the last turn was served; in cores to which no legal events led, also unless its own result is kept
+/// there only before or only after (docs/machine.md, "The core").
 pub fn law_others_go_on_alike()
-    ensures { OthersGoOnAlike }
+    ensures alike { OthersGoOnAlike }
+    ensures unless_held { OthersGoOnUnlessHeld }
 {}
 
 /// A legal event leaves the contexts of strands that it does not touch, other nodelets, and links but for what it

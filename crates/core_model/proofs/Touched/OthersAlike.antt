@@ -1,9 +1,10 @@
 -- Events leave all strands as they were that they do not touch.
-use Rattle.std.proofs.Common.{◌≡◌, ◌≢◌, ℕ, List, [], ◌++◌, Some, refl, sym, ap, ◌∙◌, subst, Bool, true, false, not, ◌&&◌, nat_lt, Contains}
+use Rattle.std.proofs.Common.{◌≡◌, ◌≢◌, ℕ, List, [], ◌++◌, Option, Some, None, refl, sym, ap, ◌∙◌, subst, Bool, true, false, not, ◌&&◌, ◌||◌, nat_lt, option_and_then, Contains}
 use Rattle.std.specs.Prelude.{if◌then◌else◌, ◌==◌, drop}
 use Rattle.std.proofs.lemmas.Bool.{eqb-true}
 use Rattle.std.proofs.lemmas.List.{append-nil}
 use Rattle.word_ops.specs.declared.name.Name.{Name}
+use Rattle.word_ops.specs.declared.ticket.Ticket.{Ticket}
 use Rattle.word_ops.specs.declared.step.NodeEvent.TheVariants as node
 use Rattle.merge_law.specs.declared.event.Event.{Event}
 use Rattle.merge_law.specs.declared.event.Event.TheVariants.{Run, Take}
@@ -11,11 +12,14 @@ use Rattle.merge_law.specs.Events.{nodelet_of}
 use Rattle.merge_law.specs.Machine.{stamped}
 use Rattle.merge_law.specs.Core.{After, Advance, leaving, but_from, after, core_after}
 use Rattle.merge_law.proofs.Somes.{same_number, swapped}
+use Rattle.world_model.specs.Action.{Action, Turn, Load, Issue, Fetch, Init, Fence, Move, Where, Print, Alloc, Spawn, Sync, End, Trap}
 use Rattle.world_model.specs.Run.{start}
+use Rattle.core_model.specs.Contexts.{Context, context_of}
 use Rattle.core_model.specs.Nodes.{Setup, Node}
+use Rattle.core_model.specs.Runs.{has_no_result, is_free}
 use Rattle.core_model.specs.Machine.{Packet, machine_of, stamped_node}
 use Rattle.core_model.specs.Core.{Core, start_core, setting_of}
-use Rattle.core_model.specs.Touched.{touched_by_first, IsOther, OthersGoOnAlike, OthersStand, untaken, ElsewhereIsSame, EventsAreLocal}
+use Rattle.core_model.specs.Touched.{touched_by_first, IsOther, OthersGoOnAlike, OthersGoOnUnlessHeld, OthersStand, untaken, ElsewhereIsSame, EventsAreLocal}
 use Rattle.core_model.proofs.Invariant.Start.{starts}
 use Rattle.core_model.proofs.Invariant.OtherStrands.{Kept}
 use Rattle.core_model.proofs.Invariant.FreeEnds.{live_free}
@@ -68,6 +72,40 @@ others_go_on_alike u sound some events played legal event left e turns q other =
 
     later : Kept u before.world left.core left.entry.entry.step
     later = event_kept u sound some played.core before.world before.holds event left e
+
+-- an End is held up alike where the result is there or not alike
+free_same : (k : ℕ) (v w : Node) (ticket : Option Ticket) → has_no_result v ticket ≡ has_no_result w ticket → (action : Action) → is_free k v ticket action ≡ is_free k w ticket action
+free_same k v w None e action = refl
+free_same k v w (Some t) e (End value) = ap (λ r. not (t.home == k) || r) e
+free_same k v w (Some t) e Turn = refl
+free_same k v w (Some t) e (Load at a) = refl
+free_same k v w (Some t) e (Issue at op a word) = refl
+free_same k v w (Some t) e (Fetch at f a) = refl
+free_same k v w (Some t) e (Init at a word) = refl
+free_same k v w (Some t) e Fence = refl
+free_same k v w (Some t) e (Move at a) = refl
+free_same k v w (Some t) e Where = refl
+free_same k v w (Some t) e (Print bytes) = refl
+free_same k v w (Some t) e (Alloc request) = refl
+free_same k v w (Some t) e (Spawn d f args hint) = refl
+free_same k v w (Some t) e (Sync d) = refl
+free_same k v w (Some t) e (Trap at kind) = refl
+
+pub others_go_on_unless_held : OthersGoOnUnlessHeld
+others_go_on_unless_held u c event left e turns q other held =
+    runs_alike u k q (left.core.nodes k) (c.nodes k) same turns (λ x found action. free_same k (left.core.nodes k) (c.nodes k) x.ticket (kept_alike x found) action)
+  where
+    k : ℕ
+    k = nodelet_of event
+
+    same : Alike q (left.core.nodes (nodelet_of event)) (c.nodes (nodelet_of event))
+    same = others_alike u c event left e q other
+
+    kept_alike : (x : Context) → context_of q (c.nodes (nodelet_of event)).contexts ≡ Some x →
+        has_no_result (left.core.nodes (nodelet_of event)) x.ticket ≡ has_no_result (c.nodes (nodelet_of event)) x.ticket
+    kept_alike x found =
+        ap (λ o. has_no_result (left.core.nodes (nodelet_of event)) (option_and_then (λ (y : Context). y.ticket) o)) (sym (same.context ∙ found))
+        ∙ held ∙ ap (λ o. has_no_result (c.nodes (nodelet_of event)) (option_and_then (λ (y : Context). y.ticket) o)) found
 
 -- ---- elsewhere
 
