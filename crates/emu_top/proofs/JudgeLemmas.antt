@@ -1,17 +1,16 @@
 -- What a text comes to that spells a program.
 use Rattle.std.proofs.Common.{◌≡◌, ◌≢◌, ℕ, List, refl, sym, subst, Bool, true, false, ◌&&◌, not}
 use Rattle.std.proofs.lemmas.Bool.{false≢true}
-use Rattle.cilk_ast.specs.declared.fault.TextFault.{TextFault}
 use Rattle.cilk_ast.specs.declared.program.Program.{Program}
 use Rattle.cilk_ast.specs.declared.tree.Tree.{Tree}
 use Rattle.cilk_model.specs.Canonical.{canonical_text}
 use Rattle.cilk_model.specs.Checked.{Checked}
-use Rattle.cilk_model.specs.Texts.{SpellsTree, FirstFault}
+use Rattle.cilk_model.specs.Texts.{SpellsTree}
 use Rattle.emu_words.specs.declared.asked.Asked.{Asked}
 use Rattle.emu_words.specs.declared.asked.Mode.{Mode}
 use Rattle.emu_words.specs.declared.asked.Mode.TheVariants.{Check, Emit, Run, Gen, Replay, Audit, Exec, Time, Upgrade}
 use Rattle.emu_top.specs.Words.{is_built, is_built_mode}
-use Rattle.emu_top.specs.Causes.{RefusesIn, PrintsIn, JudgesText}
+use Rattle.emu_top.specs.Causes.{PrintsIn, JudgesText}
 use Rattle.emu_top.specs.code.Judged.{IsEmitted, HasRunOf}
 use Rattle.emu_top.specs.declared.verdict.Verdict.{Verdict}
 use Rattle.emu_top.specs.declared.verdict.Verdict.TheVariants.{BadWords, Unread, TooLong, Refused, Printed, Emitted, HasRun}

@@ -1,5 +1,5 @@
 -- What is written of a run whose journal and live counters are not wanted.
-use Rattle.std.proofs.Common.{◌≡◌, ℕ, List, [], ◌++◌, Some, refl, sym, ap, ◌∙◌, append-nil, true}
+use Rattle.std.proofs.Common.{◌≡◌, ℕ, List, [], ◌++◌, sym, ap, ◌∙◌, append-nil, true}
 use Rattle.std.specs.List.{concat, flat_map}
 use Rattle.word_ops.specs.Ending.{ending_line}
 use Rattle.word_ops.specs.Journal.{journal_of}

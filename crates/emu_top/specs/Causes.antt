@@ -11,9 +11,7 @@ use Rattle.cilk_model.specs.Texts.{SpellsTree, SpellsProgram, FirstFault}
 use Rattle.cilk_model.specs.Checked.{Checked as IsProgram}
 use Rattle.cilk_model.specs.Canonical.{canonical_text}
 use Rattle.threadlet_code.specs.declared.code.Code.{Code}
-use Rattle.threadlet_code.specs.declared.verified.Verified.{Verified}
 use Rattle.code_text.specs.CodeText.{code_text}
-use Rattle.traffic_report.specs.declared.run.Ran.{Ran}
 use Rattle.emu_words.specs.declared.asked.Asked.{Asked}
 use Rattle.emu_words.specs.declared.asked.Mode.{Mode}
 use Rattle.emu_words.specs.declared.asked.Mode.TheVariants.{Check, Emit, Run, Gen, Replay, Audit, Exec, Time, Upgrade}

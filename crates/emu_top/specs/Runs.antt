@@ -1,5 +1,5 @@
 -- What a run is that was asked for.
-use Rattle.std.specs.Prelude.{◌≡◌, ℕ, List, Option, unwrap_or, false}
+use Rattle.std.specs.Prelude.{ℕ, List, unwrap_or}
 use Rattle.word_ops.specs.declared.rules.Rules.TheVariants.{Checked}
 use Rattle.cilk_ast.specs.declared.program.Program.{Program}
 use Rattle.cilk_model.specs.Texts.{SpellsProgram}
