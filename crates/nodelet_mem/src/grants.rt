@@ -1,8 +1,9 @@
 //! The grants of a nodelet: which addresses were given out.
 
-ghost use Rattle.std.specs.Prelude.{◌≡◌, ℤ, pos, true, false, ◌||◌, ◌+ℤ◌, ◌<◌, ◌≤◌, length, IfSome, OnOk, OnErr};
-ghost use Rattle.std.specs.List.{HoldsAt};
-ghost use Rattle.nodelet_mem.specs.Grants.{is_within, is_granted_by, touches, run_up_to};
+ghost use Rattle.std.specs.Prelude.{◌≡◌, ℕ, ℤ, pos, true, false, ◌||◌, ◌+ℤ◌, ◌≤ℤ◌, ◌<ℤ◌, ◌+◌, ◌-◌, ◌<◌, ◌≤◌, vec_len, vec_capacity, length, slice_index_or, OnOk, OnErr};
+ghost use Rattle.std.specs.List.{insert};
+ghost use Rattle.nodelet_mem.specs.Grants.{is_within, is_granted_by, run_up_to, AreOrdered, IsPlace, AreRaised, EndsInOrder};
+ghost use Rattle.nodelet_mem.specs.declared.grants.Run.{Run as GrantRun};
 
 use std::alloc::{AllocError, Global};
 use std::marker::Model;
@@ -21,13 +22,6 @@ impl Run {
         self.first <= address && i128::from(address) < self.end
     }
 
-    /// Whether a run that begins at `address` makes this one longer.
-    fn touches(&self, address: i64) -> bool
-        ensures { result ≡ touches self.now address }
-    {
-        self.first <= address && i128::from(address) <= self.end
-    }
-
     /// This run, up to `end` where it is shorter.
     fn up_to(self, end: i128) -> Run
         ensures { result ≡ run_up_to self end }
@@ -39,8 +33,8 @@ impl Run {
     }
 }
 
-/// Runs that together have the granted addresses. A grant that touches a run makes it longer, so that
-/// allocations in a row are one run.
+/// Runs that together have the granted addresses, by their first ones; no run ends before an earlier one. A
+/// grant that touches a run makes it longer, so that allocations in a row are one run.
 #[derive(Debug, Drop)]
 pub struct Grants {
     runs: Vec<Run>,
@@ -49,10 +43,13 @@ pub struct Grants {
 impl Model for Grants {
     ghost use Rattle.std.specs.Prelude.{◌-◌, vec_len, vec_capacity};
     ghost use Rattle.nodelet_mem.specs.GrantsState.{GrantsState};
+    ghost use Rattle.nodelet_mem.specs.Grants.{AreOrdered};
 
     ghost Value = { GrantsState };
 
     ghost view = { λ g. record { runs = g.runs.items; spare = vec_capacity g.runs - vec_len g.runs } };
+
+    ghost invariant = { λ g. AreOrdered g.runs.items };
 }
 
 impl Grants {
@@ -72,13 +69,14 @@ impl Grants {
         ensures full { OnErr result (self.old.spare ≡ 0) }
     {
         let end = i128::from(first) + i128::from(count);
-        match touched(&self.runs, first) {
-            Some(i) => self.runs[i] = self.runs[i].up_to(end),
-            None => {
-                self.runs.reserve(1)?;
-                self.runs.push_reserved(Run { first, end });
-            }
+        let place = place_of(&self.runs, first);
+        if is_touched(&self.runs, place, first) {
+            raise(&mut self.runs, place - 1, end);
+            return Ok(());
         }
+        self.runs.reserve(1)?;
+        put(&mut self.runs, place, Run { first, end });
+        raise(&mut self.runs, place + 1, end);
         Ok(())
     }
 
@@ -95,14 +93,60 @@ impl Grants {
     pub fn contains(&self, address: i64) -> bool
         ensures { result ≡ is_granted_by self.now.runs address }
     {
-        self.runs.iter().any(|run| run.contains(address))
+        let place = place_of(&self.runs, address);
+        place > 0 && self.runs[place - 1].contains(address)
     }
 }
 
-/// A run that one which begins at `first` makes longer.
-fn touched(runs: &[Run], first: i64) -> Option<usize>
-    ensures bound { IfSome result (λ i. i < length runs.now) }
-    ensures touches { IfSome result (HoldsAt (λ run. touches run first ≡ true) runs.now) }
+/// How many runs begin at `address` or before it.
+fn place_of(runs: &[Run], address: i64) -> usize
+    requires { AreOrdered runs.now }
+    ensures { IsPlace runs.now address result }
 {
-    runs.iter().position(|run| run.touches(first))
+    let mut low = 0;
+    let mut high = runs.len();
+    while low < high {
+        let middle = low + (high - low) / 2;
+        if runs[middle].first <= address {
+            low = middle + 1;
+        } else {
+            high = middle;
+        }
+    }
+    low
+}
+
+/// Whether the run before a place is continued or overlapped by one that begins at `first`.
+fn is_touched(runs: &[Run], place: usize, first: i64) -> bool
+    requires within { place ≤ length runs.now }
+    requires ordered { AreOrdered runs.now }
+    ensures yes { result ≡ true → (0 < place) × ((d : GrantRun) → first ≤ℤ (slice_index_or runs.now (place - 1) d).end) }
+    ensures no { result ≡ false → (k : ℕ) (d : GrantRun) → k < place → (slice_index_or runs.now k d).end <ℤ first }
+{
+    place > 0 && i128::from(first) <= runs[place - 1].end
+}
+
+/// Puts a run at a place, for which there is room.
+fn put(runs: &mut Vec<Run>, place: usize, run: Run)
+    requires place { place ≤ vec_len runs.old }
+    requires room { vec_len runs.old < vec_capacity runs.old }
+    ensures items { runs.new.items ≡ insert runs.old.items place run }
+{
+    match runs.insert(place, run) {
+        Ok(()) => {}
+        Err(_) => unreachable!(),
+    }
+}
+
+/// Makes the runs from `from` on longer, up to `end`; those behind one that ends there or later do too.
+fn raise(runs: &mut Vec<Run>, from: usize, end: i128)
+    requires { EndsInOrder runs.old.items from }
+    ensures { AreRaised runs.old.items from end runs.new.items }
+{
+    for i in from..runs.len() {
+        if end <= runs[i].end {
+            return;
+        }
+        runs[i] = runs[i].up_to(end);
+    }
 }

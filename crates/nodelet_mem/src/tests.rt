@@ -89,3 +89,31 @@ fn a_grant_has_its_addresses_alone(rt: HostRuntime) {
     assert_eq!(rt; words.load(8), 0);
     wants_send(&words);
 }
+
+#[test]
+fn grants_come_in_any_order(rt: HostRuntime) {
+    let mut words = Words::new(rt.alloc());
+    for (first, count) in [
+        (40, 2),
+        (10, 2),
+        (20, 1),
+        (11, 3),
+        (13, 10),
+        (60, 1),
+        (12, 30),
+    ] {
+        words.grant(first, count).expect(&rt, "memory");
+    }
+    for (address, granted) in [
+        (9, false),
+        (10, true),
+        (22, true),
+        (41, true),
+        (42, false),
+        (59, false),
+        (60, true),
+        (61, false),
+    ] {
+        assert_eq!(rt; words.granted(address), granted, "at {address}");
+    }
+}
